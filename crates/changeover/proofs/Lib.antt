@@ -1,0 +1,5 @@
+pub mod Places
+pub mod Tables
+pub mod Leasts
+pub mod Laws
+pub mod Exactly

@@ -1,0 +1,5 @@
+pub mod Rows
+pub mod Table
+pub mod Kinds
+pub mod Rules
+pub mod Setups

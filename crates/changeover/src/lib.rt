@@ -1,0 +1,30 @@
+// The gaps between jobs, and lower bounds on what the gaps of a row of jobs add up to.
+mod bound;
+mod gaps;
+mod larger;
+mod least_gap;
+mod no_bound;
+mod refusals;
+mod setups;
+mod shortest_walk;
+
+pub use bound::Bound;
+pub use bound::Numbers;
+pub use gaps::Gaps;
+pub use larger::Larger;
+pub use larger::LargerBound;
+pub use larger::LargerNumbers;
+pub use least_gap::LeastGap;
+pub use least_gap::LeastGapBound;
+pub use least_gap::Multiples;
+pub use least_gap::MultiplesNumbers;
+pub use no_bound::NoBound;
+pub use no_bound::NoBoundBound;
+pub use no_bound::Zeros;
+pub use no_bound::ZerosNumbers;
+pub use refusals::NoSuchJob;
+pub use setups::one_job_each;
+pub use shortest_walk::Listed;
+pub use shortest_walk::ListedNumbers;
+pub use shortest_walk::ShortestWalk;
+pub use shortest_walk::ShortestWalkBound;
