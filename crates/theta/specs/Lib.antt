@@ -1,0 +1,4 @@
+pub mod Refusals
+pub mod Tree
+pub mod Lifts
+pub mod Runs

@@ -1,0 +1,4 @@
+pub mod Bests
+pub mod Smalls
+pub mod GreyTrees
+pub mod Tellings
