@@ -1,0 +1,15 @@
+pub mod Lines
+pub mod Searches
+pub mod Seats
+pub mod Bounds
+pub mod Turns
+pub mod Keeping
+pub mod Halves
+pub mod Sound
+pub mod Fitting
+pub mod Orders
+pub mod Minutes
+pub mod Rounds
+pub mod SettleEnds
+pub mod SettleFinds
+pub mod Settlings
