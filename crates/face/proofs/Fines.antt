@@ -6,9 +6,9 @@ use Prim.Native.Nat.{ℕ, _+_, _<_, _≤_}
 use native.Mathlib.Omega.{arith}
 use lib.Dec.{ltb, leb}
 use lib.ListN.{getD}
-use Rattle.std.proofs.shelf.Tests.{lt-ltb, le-ltb, ltb-true, leb-true, le-leb, cond-true, cond-false, and-parts, and-from, cases-lt}
-use Rattle.changeover.specs.Table.{jobs-of, gap-of}
-use Rattle.rules.specs.Faces.{Face as Shown, of-job}
+use Rattle.std.proofs.shelf.Tests.{lt-ltb, le-ltb, leb-true, le-leb, cond-true, cond-false, and-parts, and-from, cases-lt}
+use Rattle.changeover.specs.Table.{jobs-of}
+use Rattle.rules.specs.Faces.{of-job}
 use Rattle.rules.specs.Theorems.{Fine}
 use Rattle.face.specs.declared.face.Face.{Face}
 use Rattle.face.specs.Limits.{in-limits}
@@ -42,10 +42,6 @@ module _ (F : Face) where
   pub n-is : shown F .n ≡ jobs-of (F .gaps)
   unfolding shown
   n-is = refl
-
-  pub gap-is : shown F .gap ≡ gap-of (F .gaps)
-  unfolding shown
-  gap-is = refl
 
   pub early-is : (j : ℕ) → j < jobs-of (F .gaps) → shown F .early j ≡ getD (F .early) j 0
   unfolding shown

@@ -1,7 +1,7 @@
 -- What the calls of a tree of white and grey leaves do to the jobs that it holds, and what its root tells of them. Assumes nothing.
 use mathlib.Core.Path.{_≡_, refl, sym, ap, subst, _∙_}
 use mathlib.Core.Bool.{Bool, true, false, cond}
-use mathlib.Core.Logic.{_≢_, ⊎-elim}
+use mathlib.Core.Logic.{⊎-elim}
 use Prim.Native.Nat.{ℕ, _<_, _≤_}
 use native.Mathlib.Omega.{arith}
 use lib.Dec.{eqb}
@@ -12,12 +12,12 @@ use Rattle.std.specs.declared.option.Option.the-variants.{Some, None}
 use Rattle.std.specs.declared.result.Result.the-variants.{Ok, Err}
 use Rattle.theta.specs.declared.refusals.LeafRefusal.{LeafRefusal}
 use Rattle.theta.specs.Refusals.{leaf-answer}
-use Rattle.theta.specs.Tree.{grown, row}
-use Rattle.theta.specs.Runs.{Call, start, puts, greys, drops, then, comes, seat, leaves-after, Begins, Follows}
+use Rattle.theta.specs.Tree.{grown}
+use Rattle.theta.specs.Runs.{Call, start, puts, greys, drops, then, comes, seat, Begins, Follows}
 use Rattle.theta_nodes.specs.declared.grey.Grey.{Grey}
 use Rattle.theta_nodes.specs.Grey.{rank as late-rank, empty-grey, white-leaf-in, grey-leaf, turned-grey, grey-placed, grey-join}
 use Rattle.theta_nodes.specs.White.{empty-white, white-join}
-use Rattle.theta_nodes.specs.Leaves.{Leaf, nothing-here, white-here, grey-here, In-limits, is-grey, whitened, with-white, in-white, in-grey, white-root, grey-tree}
+use Rattle.theta_nodes.specs.Leaves.{nothing-here, white-here, grey-here, In-limits, is-grey, whitened, with-white, in-white, in-grey, white-root, grey-tree}
 use Rattle.theta_lambda.specs.Tells.{Tells}
 use Rattle.rules.specs.Faces.{Face, earliest-finish}
 use Rattle.rules.specs.Places.{place, leaf-of, leaves, E}
@@ -27,7 +27,7 @@ use Rattle.rules.proofs.Seats.{at-place, place-below, place-found, place-finds}
 use Rattle.face.specs.declared.grey_tree.GreyTree.{GreyTree}
 use Rattle.face.specs.Orders.{HasRank}
 use Rattle.face.specs.WhiteTrees.{but}
-use Rattle.face.specs.GreyTrees.{mixed-leaf, mixed-leaves, HoldsBoth, Apart, Blames, TellsJobs}
+use Rattle.face.specs.GreyTrees.{mixed-leaf, mixed-leaves, HoldsBoth, Apart, TellsJobs}
 use Rattle.face.proofs.Ranks.{rank-apart, place-rank}
 use Rattle.face.proofs.Rows.{row-same, bare-row, seat-same, seat-step}
 use Rattle.face.proofs.Whites.{Same, SameBut, with-others, with-here, but-others, but-here}

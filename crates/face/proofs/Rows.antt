@@ -4,8 +4,8 @@ use mathlib.Core.Logic.{_≢_, ⊎-elim}
 use mathlib.Core.List.{List}
 use Prim.Native.Nat.{ℕ, _+_, _<_, _≤_}
 use native.Mathlib.Omega.{arith}
-use lib.ListN.{length, getD, set, drop, replicate, length-set}
-use lib.Seq.{getD-set-same, getD-set-other, getD-drop, ext-getD, set-set}
+use lib.ListN.{length, getD, set, length-set}
+use lib.Seq.{getD-set-same, getD-set-other, getD-drop, ext-getD}
 use Rattle.std.proofs.shelf.Tests.{cases-eq}
 use Rattle.std.proofs.shelf.Counted.{length-map-counting, getD-map-counting}
 use Rattle.std.specs.declared.option.Option.{Option}
@@ -13,7 +13,7 @@ use Rattle.std.specs.declared.option.Option.the-variants.{Some, None}
 use Rattle.theta.specs.Tree.{paired, level, grown, row}
 use Rattle.theta.specs.Runs.{bare, Call, Run, then, comes, seat, leaves-after, Stands, Follows}
 use Rattle.rules.specs.Faces.{Face}
-use Rattle.rules.specs.Places.{place, first-such}
+use Rattle.rules.specs.Places.{place}
 use Rattle.rules.proofs.Seats.{at-place, place-below, place-found, place-finds}
 
 module _ {N : Type 0} where

@@ -1,13 +1,12 @@
 -- What the calls of a tree of white leaves do to the jobs that it holds. Assumes nothing.
 use mathlib.Core.Path.{_≡_, refl, sym, ap, subst, _∙_}
 use mathlib.Core.Bool.{Bool, true, false, not, cond, _&&_, _||_}
-use mathlib.Core.Logic.{_≢_, ⊎-elim}
-use mathlib.Core.List.{List}
+use mathlib.Core.Logic.{_≢_}
 use Prim.Native.Nat.{ℕ, zero, suc, _+_, _^_, _<_, _≤_}
 use native.Mathlib.Omega.{arith}
 use lib.Dec.{eqb}
 use lib.ListN.{getD}
-use Rattle.std.proofs.shelf.Tests.{cond-true, cond-false, cond-both, eq-eqb, ne-eqb, or-left, and-left, cases-eq}
+use Rattle.std.proofs.shelf.Tests.{cond-true, cond-false, cond-both, eq-eqb, ne-eqb, or-left}
 use Rattle.std.specs.declared.option.Option.{Option}
 use Rattle.std.specs.declared.option.Option.the-variants.{Some, None}
 use Rattle.std.specs.declared.result.Result.{Result}
@@ -15,12 +14,12 @@ use Rattle.std.specs.declared.result.Result.the-variants.{Ok, Err}
 use Rattle.theta.specs.declared.refusals.LeafRefusal.{LeafRefusal}
 use Rattle.theta.specs.declared.refusals.TreeRefusal.{TreeRefusal}
 use Rattle.theta.specs.Refusals.{leaf-answer, seated}
-use Rattle.theta.specs.Tree.{grown, row}
-use Rattle.theta.specs.Runs.{Call, start, puts, lifts, sets-back, then, comes, seat, leaves-after, Begins, Follows}
+use Rattle.theta.specs.Tree.{grown}
+use Rattle.theta.specs.Runs.{Call, start, puts, lifts, sets-back, then, comes, seat, Begins, Follows}
 use Rattle.theta.proofs.Grows.{grow, root-is}
 use Rattle.theta_nodes.specs.declared.white.White.{White}
 use Rattle.theta_nodes.specs.White.{Timed, later, after, empty-white, white-leaf, white-join}
-use Rattle.theta_nodes.specs.Leaves.{Leaf, nothing-here, white-here, in-white, white-root}
+use Rattle.theta_nodes.specs.Leaves.{nothing-here, white-here, in-white, white-root}
 use Rattle.rules.specs.Faces.{Face, earliest-finish}
 use Rattle.rules.specs.Places.{place, leaf-of, leaves, E}
 use Rattle.rules.specs.Rules.{with-job}

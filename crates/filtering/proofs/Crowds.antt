@@ -1,28 +1,25 @@
 -- Edge finding, one job more at a time. Assumes nothing.
 use mathlib.Core.Path.{_≡_, refl, sym, ap, subst, _∙_}
-use mathlib.Core.Bool.{Bool, true, false, not, cond, _&&_}
+use mathlib.Core.Bool.{Bool, true, false, not, cond}
 use mathlib.Core.List.{List}
-use mathlib.Core.Logic.{_≢_, _⊎_, inl, inr, ⊎-elim}
+use mathlib.Core.Logic.{_≢_, inl, inr, ⊎-elim}
 use Prim.Native.Nat.{ℕ, zero, suc, _+_, _<_, _≤_}
 use native.Mathlib.Nat.{not-suc-le-zero}
 use native.Mathlib.Omega.{arith}
 use lib.Dec.{ltb, eqb}
-use lib.ListN.{length, getD, set}
+use lib.ListN.{length, set}
 use lib.Seq.{getD-set-same, getD-set-other}
-use Rattle.std.proofs.shelf.Tests.{cases-eq, cases-lt, cases-bool, both-ways, and-left, and-right, and-from, ltb-false, le-ltb, lt-ltb, cond-true, cond-false}
+use Rattle.std.proofs.shelf.Tests.{cases-eq, cases-lt, both-ways, and-right, ltb-false, le-ltb, lt-ltb, cond-true, cond-false}
 use Rattle.std.specs.declared.option.Option.{Option}
 use Rattle.std.specs.declared.option.Option.the-variants.{Some, None}
 use Rattle.theta_nodes.specs.Grey.{rank as late-rank}
 use Rattle.rules.specs.Faces.{Face}
-use Rattle.rules.specs.Places.{before-by, count, E}
-use Rattle.rules.specs.Rules.{above, or-zero, first-in, least-over, sum, after, late-before, up-to, too-much, with-job, tight, edge-early}
-use Rattle.face.specs.Orders.{rank, HasRank, firsts}
+use Rattle.rules.specs.Places.{count, E}
+use Rattle.rules.specs.Rules.{above, or-zero, least-over, sum, after, up-to, too-much, with-job}
 use Rattle.face.specs.WhiteTrees.{but}
 use Rattle.face.specs.GreyTrees.{Apart, TellsJobs}
-use Rattle.face.proofs.Ranks.{rank-apart, rank-lt, rank-before, rank-not-before}
 use Rattle.face.proofs.Whites.{Same, but-others, but-here, with-others, with-here}
 use Rattle.filtering.specs.Edges.{crowded, flagged, Blamed, Moved}
-use Rattle.filtering.proofs.Lates.{first-none, greatest-first, firsts-with, up-to-firsts}
 
 -- an earlier time is not above what a later one is not above
 above-rank : (x y : Option ℕ) (limit : ℕ) → late-rank x ≤ late-rank y → above y limit ≡ false → above x limit ≡ false

@@ -2,11 +2,11 @@
 ghost use mathlib.Core.Path.{_≡_};
 ghost use mathlib.Core.Logic.{_≢_};
 ghost use Prim.Native.Nat.{ℕ, _<_, _≤_};
-ghost use lib.ListN.{length, getD};
+ghost use lib.ListN.{getD};
 ghost use Rattle.rules.specs.Faces.{turned};
 ghost use Rattle.changeover.specs.Table.{jobs-of, gap-of};
 ghost use Rattle.face.specs.Limits.{in-limits};
-ghost use Rattle.face.specs.Shown.{shown, Verdict, Checked, Made, Windowed, early-in, late-in, duration-in};
+ghost use Rattle.face.specs.Shown.{shown, Verdict, Checked, Made, Windowed};
 use super::Face;
 use crate::job::Job;
 use changeover::Gaps;

@@ -66,6 +66,7 @@ impl Reading {
     pub fn place(&self, j: usize) -> usize
         ensures small { λ r. ⌜ r ≤ 31 ⌝ }
         ensures value { λ r. ⌜ (j < read (now (self .entry)) .n → r ≡ place (read (now (self .entry))) j) ⌝ }
+        ensures outside { λ r. ⌜ (read (now (self .entry)) .n ≤ j → r ≡ 0) ⌝ }
     {
         if j < self.face.jobs() {
             self.places[j]
@@ -75,11 +76,12 @@ impl Reading {
     }
 
     // The job at a place; 0 where no job has that place.
-    pub fn job_at(&self, place: usize) -> usize
-        ensures { λ r. ⌜ (place < read (now (self .entry)) .n → HasRank (read (now (self .entry)) .n) (read (now (self .entry)) .early) place r) ⌝ }
+    pub fn job_at(&self, seat: usize) -> usize
+        ensures job { λ r. ⌜ (seat < read (now (self .entry)) .n → HasRank (read (now (self .entry)) .n) (read (now (self .entry)) .early) seat r) ⌝ }
+        ensures outside { λ r. ⌜ (read (now (self .entry)) .n ≤ seat → r ≡ 0) ⌝ }
     {
-        if place < self.face.jobs() {
-            self.by_early[place]
+        if seat < self.face.jobs() {
+            self.by_early[seat]
         } else {
             0
         }
@@ -87,7 +89,8 @@ impl Reading {
 
     // The job of rank t in late order; 0 where there is none.
     pub fn late_job(&self, t: usize) -> usize
-        ensures { λ r. ⌜ (t < read (now (self .entry)) .n → HasRank (read (now (self .entry)) .n) (read (now (self .entry)) .late) t r) ⌝ }
+        ensures job { λ r. ⌜ (t < read (now (self .entry)) .n → HasRank (read (now (self .entry)) .n) (read (now (self .entry)) .late) t r) ⌝ }
+        ensures outside { λ r. ⌜ (read (now (self .entry)) .n ≤ t → r ≡ 0) ⌝ }
     {
         if t < self.face.jobs() {
             self.by_late[t]
@@ -98,7 +101,8 @@ impl Reading {
 
     // The job of rank t by latest start; 0 where there is none.
     pub fn starting_job(&self, t: usize) -> usize
-        ensures { λ r. ⌜ (t < read (now (self .entry)) .n → HasRank (read (now (self .entry)) .n) (latest-start (read (now (self .entry)))) t r) ⌝ }
+        ensures job { λ r. ⌜ (t < read (now (self .entry)) .n → HasRank (read (now (self .entry)) .n) (latest-start (read (now (self .entry)))) t r) ⌝ }
+        ensures outside { λ r. ⌜ (read (now (self .entry)) .n ≤ t → r ≡ 0) ⌝ }
     {
         if t < self.face.jobs() {
             self.by_latest_start[t]
@@ -109,7 +113,8 @@ impl Reading {
 
     // The job of rank t by earliest finish; 0 where there is none.
     pub fn finishing_job(&self, t: usize) -> usize
-        ensures { λ r. ⌜ (t < read (now (self .entry)) .n → HasRank (read (now (self .entry)) .n) (earliest-finish (read (now (self .entry)))) t r) ⌝ }
+        ensures job { λ r. ⌜ (t < read (now (self .entry)) .n → HasRank (read (now (self .entry)) .n) (earliest-finish (read (now (self .entry)))) t r) ⌝ }
+        ensures outside { λ r. ⌜ (read (now (self .entry)) .n ≤ t → r ≡ 0) ⌝ }
     {
         if t < self.face.jobs() {
             self.by_earliest_finish[t]

@@ -1,13 +1,11 @@
-use mathlib.Core.Path.{_≡_, refl, sym, ap, subst, _∙_}
-use mathlib.Core.Bool.{cond}
-use Prim.Native.Nat.{ℕ, _-_, _<_, _≤_}
+use mathlib.Core.Path.{_≡_, sym, ap, subst, _∙_}
+use Prim.Native.Nat.{_-_}
 use native.Mathlib.Omega.{arith}
 use lib.ListN.{length-set}
-use Rattle.std.specs.declared.option.Option.{Option}
 use Rattle.theta_nodes.specs.White.{Timed}
 use Rattle.rules.specs.Faces.{earliest-finish, latest-start}
 use Rattle.rules.specs.Places.{E}
-use Rattle.rules.specs.Rules.{above, greatest, least-over, after, detected-early, not-last-late}
+use Rattle.rules.specs.Rules.{least-over, after, detected-early}
 use Rattle.face.specs.Readings.{read}
 use Rattle.face.specs.Shown.{shown}
 use Rattle.face.specs.Orders.{HasRank, firsts}
@@ -37,7 +35,7 @@ sum-requires g c κs =
     let i = c .finishing-job-i .result in
     let limit = c .earliest-finish-limit .result in
     let face = c .face-face .ensures in
-    let at : HasRank (F .n) (earliest-finish F) t i = c .finishing-job-i .ensures (omega (arith, ap (λ x. x .n) face)) in
+    let at : HasRank (F .n) (earliest-finish F) t i = c .finishing-job-i .ensures .job (omega (arith, ap (λ x. x .n) face)) in
     let is-limit : limit ≡ (earliest-finish F) i = c .earliest-finish-limit .ensures .value ∙ ap (λ x. (earliest-finish x) i) face in
     let q = c .fill-q .result in
     let filled : Filled F b q limit (c .fill-q .last .tree) = c .fill-q .ensures (c .loop-t .inv .2 .0) (omega (arith, c .loop-t .inv .2 .2 i (at .0) (omega (arith, at .1)))) (c .loop-t .inv .2 .1) in
@@ -52,7 +50,7 @@ loop-t-again g c =
     let i = c .finishing-job-i .result in
     let limit = c .earliest-finish-limit .result in
     let face = c .face-face .ensures in
-    let at : HasRank (F .n) (earliest-finish F) t i = c .finishing-job-i .ensures (omega (arith, ap (λ x. x .n) face)) in
+    let at : HasRank (F .n) (earliest-finish F) t i = c .finishing-job-i .ensures .job (omega (arith, ap (λ x. x .n) face)) in
     let is-limit : limit ≡ (earliest-finish F) i = c .earliest-finish-limit .ensures .value ∙ ap (λ x. (earliest-finish x) i) face in
     let q = c .fill-q .result in
     let filled : Filled F b q limit (c .fill-q .last .tree) = c .fill-q .ensures (c .loop-t .inv .2 .0) (omega (arith, c .loop-t .inv .2 .2 i (at .0) (omega (arith, at .1)))) (c .loop-t .inv .2 .1) in

@@ -1,6 +1,6 @@
-use mathlib.Core.Path.{_≡_, sym, ap, _∙_}
+use mathlib.Core.Path.{ap}
 use mathlib.Core.Bool.{Bool}
-use Prim.Native.Nat.{ℕ, _+_, _<_, _≤_}
+use Prim.Native.Nat.{ℕ, _+_}
 use native.Mathlib.Omega.{arith}
 use Rattle.rules.specs.Faces.{latest-start}
 use Rattle.rules.specs.Rules.{with-job}
@@ -19,7 +19,7 @@ returns-then-latest-start-limit g c =
     let F = read (c .args .reading .now) in
     let q = c .loop-q .q in
     let j = c .starting-job-j .result in
-    let at : HasRank (F .n) (latest-start F) q j = c .starting-job-j .ensures (omega (arith, ap (λ x. x .n) (c .face .ensures))) in
+    let at : HasRank (F .n) (latest-start F) q j = c .starting-job-j .ensures .job (omega (arith, ap (λ x. x .n) (c .face .ensures))) in
     λ low h filled.
     let v = c .loop-q .inv low h filled in
     record { holds = v .0; same = stops F j q (c .args .limit) at (omega (arith, ap (λ x. latest-start x j) (c .face-in-loop-q .ensures))) (v .1) }
@@ -31,7 +31,7 @@ loop-q-again g c =
     let q = c .loop-q .q in
     let j = c .starting-job-j .result in
     let S : ℕ → Bool = firsts (F .n) (latest-start F) q in
-    let at : HasRank (F .n) (latest-start F) q j = c .starting-job-j .ensures (omega (arith, ap (λ x. x .n) (c .face .ensures))) in
+    let at : HasRank (F .n) (latest-start F) q j = c .starting-job-j .ensures .job (omega (arith, ap (λ x. x .n) (c .face .ensures))) in
     λ low h filled.
     let v = c .loop-q .inv low h filled in (
       holds-same F b (with-job j S) (firsts (F .n) (latest-start F) (q + 1)) (c .enter .last .self) (firsts-with (F .n) (latest-start F) j q at) (c .enter .ensures S (v .0)),

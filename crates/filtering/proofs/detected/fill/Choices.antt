@@ -1,8 +1,7 @@
-use mathlib.Core.Path.{_≡_}
-use Prim.Native.Nat.{ℕ, _-_, _<_, _≤_}
+use Prim.Native.Nat.{ℕ, _-_, _≤_}
 use Rattle.rules.specs.Faces.{latest-start}
 use Rattle.face.specs.Readings.{read}
-use Rattle.face.specs.Orders.{rank, firsts}
+use Rattle.face.specs.Orders.{firsts}
 use Rattle.face.specs.WhiteTrees.{Holds}
 use Rattle.filtering.specs.Sets.{Filled}
 use Rattle.filtering.proofs.Fillings.{Low}

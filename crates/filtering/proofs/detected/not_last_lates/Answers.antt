@@ -1,13 +1,13 @@
-use mathlib.Core.Path.{_≡_, refl, sym, ap, subst, _∙_}
+use mathlib.Core.Path.{_≡_, sym, ap, subst, _∙_}
 use mathlib.Core.Bool.{cond}
-use Prim.Native.Nat.{ℕ, _-_, _<_, _≤_}
+use Prim.Native.Nat.{ℕ, _-_}
 use native.Mathlib.Omega.{arith}
 use lib.ListN.{length-set}
 use Rattle.std.proofs.shelf.Tests.{cond-true, cond-false}
 use Rattle.theta_nodes.specs.White.{Timed}
-use Rattle.rules.specs.Faces.{earliest-finish, latest-start}
+use Rattle.rules.specs.Faces.{latest-start}
 use Rattle.rules.specs.Places.{E}
-use Rattle.rules.specs.Rules.{above, greatest, least-over, after, detected-early, not-last-late}
+use Rattle.rules.specs.Rules.{above, greatest, least-over, after, not-last-late}
 use Rattle.face.specs.Readings.{read}
 use Rattle.face.specs.Shown.{shown}
 use Rattle.face.specs.Orders.{HasRank, firsts}
@@ -38,7 +38,7 @@ sum-after-requires g c κs =
     let i = c .late-job-i .result in
     let limit = c .late-limit .result in
     let face = c .face-face .ensures in
-    let at : HasRank (F .n) (F .late) t i = c .late-job-i .ensures (omega (arith, ap (λ x. x .n) face)) in
+    let at : HasRank (F .n) (F .late) t i = c .late-job-i .ensures .job (omega (arith, ap (λ x. x .n) face)) in
     let is-limit : limit ≡ (F .late) i = c .late-limit .ensures .value ∙ ap (λ x. (x .late) i) face in
     let q = c .fill-q .result in
     let filled : Filled F b q limit (c .fill-q .last .tree) = c .fill-q .ensures (c .loop-t .inv .2 .0) (omega (arith, c .loop-t .inv .2 .2 i (at .0) (omega (arith, at .1)))) (c .loop-t .inv .2 .1) in
@@ -53,7 +53,7 @@ loop-t-again g c =
     let i = c .late-job-i .result in
     let limit = c .late-limit .result in
     let face = c .face-face .ensures in
-    let at : HasRank (F .n) (F .late) t i = c .late-job-i .ensures (omega (arith, ap (λ x. x .n) face)) in
+    let at : HasRank (F .n) (F .late) t i = c .late-job-i .ensures .job (omega (arith, ap (λ x. x .n) face)) in
     let is-limit : limit ≡ (F .late) i = c .late-limit .ensures .value ∙ ap (λ x. (x .late) i) face in
     let q = c .fill-q .result in
     let filled : Filled F b q limit (c .fill-q .last .tree) = c .fill-q .ensures (c .loop-t .inv .2 .0) (omega (arith, c .loop-t .inv .2 .2 i (at .0) (omega (arith, at .1)))) (c .loop-t .inv .2 .1) in

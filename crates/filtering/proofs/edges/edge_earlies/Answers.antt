@@ -36,7 +36,7 @@ resolve-requires g c κs =
     let t : ℕ = c .loop-t .t - 1 in
     let j = c .late-job-j .result in
     let next : c .loop-t .t ≡ t + 1 = omega arith in
-    let at : HasRank (F .n) (F .late) t j = c .late-job-j .ensures (omega (arith, c .loop-t .inv .0)) in
+    let at : HasRank (F .n) (F .late) t j = c .late-job-j .ensures .job (omega (arith, c .loop-t .inv .0)) in
     let walked : (i : ℕ) → i < F .n → Walked F b (t + 1) i (flagged (c .loop-t .greys) i) (getD (c .loop-t .out) i 0) = λ i hi. subst (λ s. Walked F b s i (flagged (c .loop-t .greys) i) (getD (c .loop-t .out) i 0)) next (c .loop-t .inv .4 i hi) in
     let holds : HoldsBoth F b (firsts (F .n) (F .late) (t + 1)) (flagged (c .loop-t .greys)) (c .loop-t .tree) = subst (λ s. HoldsBoth F b (firsts (F .n) (F .late) s) (flagged (c .loop-t .greys)) (c .loop-t .tree)) next (c .loop-t .inv .3) in
     record {
@@ -53,7 +53,7 @@ loop-t-again g c =
     let t : ℕ = c .loop-t .t - 1 in
     let j = c .late-job-j .result in
     let next : c .loop-t .t ≡ t + 1 = omega arith in
-    let at : HasRank (F .n) (F .late) t j = c .late-job-j .ensures (omega (arith, c .loop-t .inv .0)) in
+    let at : HasRank (F .n) (F .late) t j = c .late-job-j .ensures .job (omega (arith, c .loop-t .inv .0)) in
     let walked : (i : ℕ) → i < F .n → Walked F b (t + 1) i (flagged (c .loop-t .greys) i) (getD (c .loop-t .out) i 0) = λ i hi. subst (λ s. Walked F b s i (flagged (c .loop-t .greys) i) (getD (c .loop-t .out) i 0)) next (c .loop-t .inv .4 i hi) in
     let greys = c .resolve .last .greys in
     let many : length greys ≡ 32 = omega (arith, c .loop-t .inv .1) in

@@ -1,8 +1,8 @@
 use mathlib.Core.Path.{_≡_, sym, ap, _∙_}
 use mathlib.Core.Bool.{Bool, false}
-use Prim.Native.Nat.{ℕ, _+_, _<_}
+use Prim.Native.Nat.{ℕ, _+_}
 use native.Mathlib.Omega.{arith}
-use Rattle.rules.specs.Rules.{above, too-much}
+use Rattle.rules.specs.Rules.{too-much}
 use Rattle.face.specs.Readings.{read}
 use Rattle.face.specs.Orders.{HasRank, firsts}
 use Rattle.face.specs.WhiteTrees.{Holds}
@@ -27,7 +27,7 @@ returns-then-is-above g c =
     let j = c .late-job-j .result in
     let S : ℕ → Bool = firsts (F .n) (F .late) t in
     let S′ : ℕ → Bool = firsts (F .n) (F .late) (t + 1) in
-    let at : HasRank (F .n) (F .late) t j = c .late-job-j .ensures (omega (arith, ap (λ x. x .n) (c .face .ensures))) in
+    let at : HasRank (F .n) (F .late) t j = c .late-job-j .ensures .job (omega (arith, ap (λ x. x .n) (c .face .ensures))) in
     let h : Holds F b S′ (c .enter .last .self) = holds-same F b (with-job j S) S′ (c .enter .last .self) (firsts-with (F .n) (F .late) j t at) (c .enter .ensures S (c .loop-t .inv .0)) in
     let is = too-much-is F b j t (c .finish .result) (c .late .result) at (c .finish .ensures F b S′ h) (c .late .ensures .value ∙ ap (λ x. x .late j) (c .face-in-loop-t .ensures)) in
     overloading-some F b j t at (sym is ∙ sym (c .is-above .ensures) ∙ c .if-is-above .taken) (c .loop-t .inv .1)
@@ -40,7 +40,7 @@ loop-t-again g c =
     let j = c .late-job-j .result in
     let S : ℕ → Bool = firsts (F .n) (F .late) t in
     let S′ : ℕ → Bool = firsts (F .n) (F .late) (t + 1) in
-    let at : HasRank (F .n) (F .late) t j = c .late-job-j .ensures (omega (arith, ap (λ x. x .n) (c .face .ensures))) in
+    let at : HasRank (F .n) (F .late) t j = c .late-job-j .ensures .job (omega (arith, ap (λ x. x .n) (c .face .ensures))) in
     let h : Holds F b S′ (c .enter .last .self) = holds-same F b (with-job j S) S′ (c .enter .last .self) (firsts-with (F .n) (F .late) j t at) (c .enter .ensures S (c .loop-t .inv .0)) in
     let is = too-much-is F b j t (c .finish .result) (c .late .result) at (c .finish .ensures F b S′ h) (c .late .ensures .value ∙ ap (λ x. x .late j) (c .face-in-loop-t .ensures)) in
     (h, seen-more (F .n) (F .late) (λ k. too-much F b k ≡ false) j t at (c .loop-t .inv .1) (sym is ∙ sym (c .is-above .ensures) ∙ c .if-is-above .left))

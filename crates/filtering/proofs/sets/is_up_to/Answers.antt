@@ -1,4 +1,3 @@
-use mathlib.Core.Path.{_≡_}
 use native.Mathlib.Omega.{arith}
 use Rattle.rules.specs.Rules.{up-to}
 use Rattle.filtering.proofs.sets.is_up_to.Needs as need

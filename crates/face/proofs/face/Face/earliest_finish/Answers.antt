@@ -1,6 +1,4 @@
 use native.Mathlib.Omega.{arith}
-use borrow.Author.Needs.{needs}
-use Rattle.face.specs.Shown.{shown}
 use Rattle.face.proofs.Fines.{wide-anyway, late-small}
 use Rattle.face.proofs.face.Face.earliest_finish.Needs as need
 

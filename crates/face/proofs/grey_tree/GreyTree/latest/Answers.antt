@@ -1,7 +1,6 @@
-use mathlib.Core.Path.{_≡_, sym, ap, subst, _∙_}
+use mathlib.Core.Path.{_≡_, sym, subst}
 use mathlib.Core.Bool.{Bool}
 use Prim.Native.Nat.{ℕ}
-use Rattle.std.specs.declared.option.Option.{Option}
 use Rattle.theta_lambda.specs.Tells.{Tells}
 use Rattle.face.specs.Readings.{read}
 use Rattle.face.specs.GreyTrees.{mixed-leaves, HoldsBoth, TellsJobs}
@@ -27,7 +26,7 @@ returns g c =
       white = λ S G apart h. tells-white F b ok S G apart root (told S G h);
       grey = λ S G apart h.
           elim (c .match-root .came) [
-            | in-Some w ↦ subst (TellsJobs F b S G (root .grey .finish)) (sym (w .job-is)) (tells-some F b ok S G apart root (told S G h) _ (w .job-at .result) (w .in-Some .is) (w .job-at .ensures))
+            | in-Some w ↦ subst (TellsJobs F b S G (root .grey .finish)) (sym (w .job-is)) (tells-some F b ok S G apart root (told S G h) _ (w .job-at .result) (w .in-Some .is) (w .job-at .ensures .job))
             | in-None w ↦ subst (TellsJobs F b S G (root .grey .finish)) (sym (w .job-is)) (tells-none F b ok S G apart root (told S G h) (w .in-None .is))
           ];
     }

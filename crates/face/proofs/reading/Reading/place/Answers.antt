@@ -14,4 +14,5 @@ returns-then-j-jobs c =
     record {
       small = omega (arith, R .placed j h, rank-below (read R .early) (read R .n) j h, fine (R .face) .few);
       value = λ _. R .placed j h ∙ sym (place-rank (read R) j);
+      outside = λ out. absurd (omega arith);
     }
