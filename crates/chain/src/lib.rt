@@ -1,4 +1,5 @@
 // The cards that are on a sheet, in posting order.
+#![tactic(auto)]
 mod chain;
 
 pub use chain::Chain;

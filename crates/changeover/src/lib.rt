@@ -1,4 +1,6 @@
 // The gaps between jobs, and lower bounds on what the gaps of a row of jobs add up to.
+#![tactic(auto)]
+
 mod bound;
 mod gaps;
 mod larger;

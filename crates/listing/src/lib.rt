@@ -1,4 +1,5 @@
 // A sheet in words, as the planner and the page reader print it.
+#![tactic(auto)]
 use rules::{PageFault, Status};
 use sheet::Sheet;
 use std::alloc::{AllocError, Global};

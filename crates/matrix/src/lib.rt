@@ -1,4 +1,6 @@
 // The changeover matrix between setups: which numbers are one, and which question refuses the others.
+#![tactic(auto)]
+
 mod questions;
 mod refusals;
 

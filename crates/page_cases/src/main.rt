@@ -1,4 +1,5 @@
 // Loads pages, good and damaged ones, and writes what each load answers.
+#![tactic(auto)]
 mod commands;
 
 use archive::{load, save};

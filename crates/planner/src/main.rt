@@ -1,4 +1,5 @@
 // Keeps the planner of one test rig: reads commands from standard input, one a line, and answers each.
+#![tactic(auto)]
 mod command;
 mod desk;
 mod files;

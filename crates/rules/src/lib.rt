@@ -1,4 +1,5 @@
 // What settling means, and that every rule is sound.
+#![tactic(auto)]
 ghost use Rattle.rules.specs.Theorems.{RulesAlwaysHold, TurningAlwaysHolds, SettlingAlwaysHolds};
 ghost use Rattle.rules.specs.Histories.{PromisesKept};
 

@@ -1,4 +1,5 @@
 // Settles the cases of standard input, one a line, and writes how each ends.
+#![tactic(auto)]
 mod cases;
 mod scripted;
 mod show;

@@ -1,4 +1,5 @@
 // The sheet of one test rig.
+#![tactic(auto)]
 mod accepted;
 mod jobs;
 mod lists;

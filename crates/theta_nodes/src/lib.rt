@@ -1,4 +1,5 @@
 // The nodes of white leaves, and of white and grey leaves.
+#![tactic(auto)]
 mod grey;
 mod white;
 

@@ -9,8 +9,8 @@ loop-k-preserved c =
     let numbers = c.args.numbers.now in
     let k = c.loop-k.k in
     let gaps = c.loop-k.gaps in (
-      c.set-gap.ensures.jobs ∙ c.loop-k.invariant.0,
-      rows_more c.args.width (jobs_of gaps) k (get_or numbers k 0) numbers (gap_of gaps) (gap_of c.set-gap.new.self) c.loop-k.invariant.0 refl c.set-gap.ensures.gaps c.loop-k.invariant.1,
+      c.set_gap.ensures.jobs ∙ c.loop-k.invariant.0,
+      rows_more c.args.width (jobs_of gaps) k (get_or numbers k 0) numbers (gap_of gaps) (gap_of c.set_gap.new.self) c.loop-k.invariant.0 refl c.set_gap.ensures.gaps c.loop-k.invariant.1,
     )
 
 pub returns : goal.returns

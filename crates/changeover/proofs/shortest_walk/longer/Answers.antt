@@ -14,9 +14,9 @@ loop-j-preserved c =
     let into : ℕ → ℕ → ℕ = λ j i. get_or c.args.shorter.now i 0 + gap_of c.args.gaps.now i j in
     let xs = c.loop-j.walks in
     let i = c.loop-j.j in
-    let v = c.walk-into.result in
+    let v = c.walk_into.result in
     let lt : i < length xs = omega arith in (
       simp length-set c.loop-j.invariant.0,
-      each_set (λ _ y. y ≤ 400000) xs i v lt (λ k _. c.loop-j.invariant.1 k) (omega (arith, c.walk-into.ensures, least_top 400000 n (but 400000 i (into i)))),
-      each_set (λ k y. k < i + 1 → y ≡ least 400000 n (but 400000 k (into k))) xs i v lt (λ k ne h. c.loop-j.invariant.2 k (omega arith)) (λ _. c.walk-into.ensures),
+      each_set (λ _ y. y ≤ 400000) xs i v lt (λ k _. c.loop-j.invariant.1 k) (omega (arith, c.walk_into.ensures, least_top 400000 n (but 400000 i (into i)))),
+      each_set (λ k y. k < i + 1 → y ≡ least 400000 n (but 400000 k (into k))) xs i v lt (λ k ne h. c.loop-j.invariant.2 k (omega arith)) (λ _. c.walk_into.ensures),
     )

@@ -11,12 +11,12 @@ returns-in-Some c =
     let is = answered m numbers (omega arith, omega arith) complete (Some c.in-Some.entry) _ (sym c.in-Some.ensures) refl in
     record { answer = sym is; judged = subst (Judged m numbers) is (judged m numbers) }
 
-pub returns-in-Some-first-triple-broken : goal.returns-in-Some-first-triple-broken
-returns-in-Some-first-triple-broken c =
+pub returns-in-Some-first_triple_broken : goal.returns-in-Some-first_triple_broken
+returns-in-Some-first_triple_broken c =
     let m = c.args.setups in
     let numbers = c.args.numbers.now in
     let complete : length numbers ≡ m * m = c.if-numbers-width.false ∙ ap (λ (w : ℕ). w * w) c.from-width.ensures in
-    let is = answered m numbers (omega arith, omega arith) complete None (Some c.in-Some-first-triple-broken.triple) (sym c.in-default.ensures) (sym c.in-Some-first-triple-broken.ensures) in
+    let is = answered m numbers (omega arith, omega arith) complete None (Some c.in-Some-first_triple_broken.triple) (sym c.in_default.ensures) (sym c.in-Some-first_triple_broken.ensures) in
     record { answer = sym is; judged = subst (Judged m numbers) is (judged m numbers) }
 
 pub returns : goal.returns
@@ -24,5 +24,5 @@ returns c =
     let m = c.args.setups in
     let numbers = c.args.numbers.now in
     let complete : length numbers ≡ m * m = c.if-numbers-width.false ∙ ap (λ (w : ℕ). w * w) c.from-width.ensures in
-    let is = answered m numbers (omega arith, omega arith) complete None None (sym c.in-default.ensures) (sym c.in-default-first-triple-broken.ensures) in
+    let is = answered m numbers (omega arith, omega arith) complete None None (sym c.in_default.ensures) (sym c.in_default-first_triple_broken.ensures) in
     record { answer = sym is; judged = subst (Judged m numbers) is (judged m numbers) }

@@ -11,7 +11,7 @@ loop-via-preserved c =
     let a = c.loop-from.from in
     let b = c.loop-to.to in
     let v = c.loop-via.via in
-    first_more (broken m numbers a b) v (omega arith) c.loop-via.invariant (passes_at m numbers a b v c.if-breaks-triangle.ensures)
+    first_more (broken m numbers a b) v (omega arith) c.loop-via.invariant (passes_at m numbers a b v c.if-breaks_triangle.ensures)
 
 pub loop-to-preserved : goal.loop-to-preserved
 loop-to-preserved c =
@@ -30,14 +30,14 @@ loop-from-preserved c =
     let all = first_all (to_row m numbers a) c.loop-to.to m (omega arith) (omega arith) c.loop-to.invariant in
     first_more (from_row m numbers) a (omega arith) c.loop-from.invariant all
 
-pub returns-then-breaks-triangle : goal.returns-then-breaks-triangle
-returns-then-breaks-triangle c =
+pub returns-then-breaks_triangle : goal.returns-then-breaks_triangle
+returns-then-breaks_triangle c =
     let m = c.args.setups in
     let numbers = c.args.numbers.now in
     let a = c.loop-from.from in
     let b = c.loop-to.to in
     let v = c.loop-via.via in
-    let here = breaks_at m numbers a b v c.if-breaks-triangle.ensures in
+    let here = breaks_at m numbers a b v c.if-breaks_triangle.ensures in
     let via = first_found (broken m numbers a b) v m _ (omega arith) (omega arith) c.loop-via.invariant here in
     let to = first_found (to_row m numbers a) b m _ (omega arith) (omega arith) c.loop-to.invariant via in
     sym (first_found (from_row m numbers) a m _ (omega arith) (omega arith) c.loop-from.invariant to)

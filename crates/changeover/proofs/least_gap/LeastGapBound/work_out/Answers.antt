@@ -9,16 +9,16 @@ use Rattle.changeover.proofs.Exactly.{least_gap_rule}
 use Rattle.changeover.proofs.Tables.{gap_small}
 use Rattle.changeover.proofs.least_gap.LeastGapBound.work_out.Goals as goal
 
-pub invariant-of-result : goal.invariant-of-result
-invariant-of-result c = search (rules, least_top)
+pub invariant_of-result : goal.invariant_of-result
+invariant_of-result c = search (rules, least_top)
 
 pub returns : goal.returns
 returns c =
     let gaps = c.args.gaps.now in
     let n = jobs_of gaps in
     let gap = gap_of gaps in
-    let same : multiples n (least_gap n gap) ≡ multiples c.jobs.result c.least-of-all.result =
-    sym (ap (λ (k : ℕ). multiples k c.least-of-all.result) c.jobs.ensures.value ∙ ap (multiples n) c.least-of-all.ensures) in
+    let same : multiples n (least_gap n gap) ≡ multiples c.jobs.result c.least_of_all.result =
+    sym (ap (λ (k : ℕ). multiples k c.least_of_all.result) c.jobs.ensures.value ∙ ap (multiples n) c.least_of_all.ensures) in
     record {
       numbers = λ e. ap (λ (b : ℕ → ℕ). b e) (sym same);
       lawful = subst (Lawful n gap) same (multiples_lawful n gap);

@@ -29,12 +29,12 @@ loop-e-preserved c =
       λ j h. c.longer-walks.ensures.each j h ∙ walk_more n gap e j (λ i. get_or c.loop-e.walks i 0) c.loop-e.invariant.4,
     )
 
-pub invariant-of-result : goal.invariant-of-result
-invariant-of-result c =
+pub invariant_of-result : goal.invariant_of-result
+invariant_of-result c =
     let n = jobs_of c.args.gaps.now in
     let gap = gap_of c.args.gaps.now in
     let all = shortest_all n gap (λ k. get_or c.loop-e.places k 0) c.loop-e.e (omega arith) c.loop-e.invariant.1 c.loop-e.invariant.2 in
-    (c.loop-e.invariant.0, (all 0 ∙ shortest_first n gap, ((λ e. omega (arith, all e, shortest_small n gap e)), tt)))
+    record { long = c.loop-e.invariant.0; first = all 0 ∙ shortest_first n gap; small = λ e. omega (arith, all e, shortest_small n gap e) }
 
 pub returns : goal.returns
 returns c =
