@@ -1,5 +1,6 @@
 // A tree of 32 leaves, for every kind of node.
 #![tactic(auto)]
+
 mod lifted;
 mod node;
 mod refusals;

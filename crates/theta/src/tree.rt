@@ -31,7 +31,7 @@ fn check_seat(many: usize, place: usize) -> Result<(), TreeRefusal>
 
 // Node i; past the last node, the empty one.
 fn node_at<N: Node + Copy>(nodes: &[N], i: usize) -> N
-    ensures { result ≡ slice_index_or nodes.now i none }
+    ensures { result ≡ slice_index_or nodes.now i N.none }
 {
     if i < nodes.len() {
         nodes[i]
@@ -42,7 +42,7 @@ fn node_at<N: Node + Copy>(nodes: &[N], i: usize) -> N
 
 // What stands at a place: the empty node where there is no such place.
 fn stands_at<N: Node + Copy>(nodes: &[N], place: usize) -> N
-    ensures { result ≡ slice_index_or nodes.now (31 + place) none }
+    ensures { result ≡ slice_index_or nodes.now (31 + place) N.none }
 {
     if place < nodes.len().saturating_sub(31) {
         nodes[31 + place]
@@ -55,7 +55,7 @@ fn stands_at<N: Node + Copy>(nodes: &[N], place: usize) -> N
 fn rejoin<N: Node + Copy, W: Numbers>(b: &W, nodes: &mut [N], i: usize)
     requires size { length nodes.old ≡ 63 }
     requires inner { i < 31 }
-    ensures { nodes.new ≡ rejoined none (joined (W.Numbers.at b.now)) nodes.old i }
+    ensures { nodes.new ≡ rejoined N.none (N.joined (W.Numbers.at b.now)) nodes.old i }
 {
     let l = node_at(nodes, 2 * i + 1);
     let r = node_at(nodes, 2 * i + 2);
@@ -67,8 +67,8 @@ fn replace<N: Node + Copy, W: Numbers>(b: &W, nodes: &mut [N], place: usize, x: 
     requires size { length nodes.old ≡ 63 }
     requires inner { place ≤ 31 }
     ensures six { result ≡ 6 }
-    ensures made { nodes.new ≡ replaced none (joined (W.Numbers.at b.now)) nodes.old place x }
-    ensures others { Elsewhere none nodes.old nodes.new place }
+    ensures made { nodes.new ≡ replaced N.none (N.joined (W.Numbers.at b.now)) nodes.old place x }
+    ensures others { Elsewhere N.none nodes.old nodes.new place }
 {
     let mut at = 31 + place;
     nodes[at] = x;
@@ -89,9 +89,9 @@ fn step<N: Node + Copy, W: Numbers>(
     x: N,
 ) -> Result<u32, TreeRefusal>
     ensures answer { result ≡ seated (length nodes.old) place 6 }
-    ensures after { nodes.new ≡ stepped none (joined (W.Numbers.at b.now)) nodes.old place x }
-    ensures others { Elsewhere none nodes.old nodes.new place }
-    ensures fresh { (turned : N → N) (call : Call N) → seat call ≡ place → comes none placed turned call (slice_index_or nodes.old (31 + place) none) ≡ x → Follows none placed turned (joined (W.Numbers.at b.now)) nodes.old nodes.new call }
+    ensures after { nodes.new ≡ stepped N.none (N.joined (W.Numbers.at b.now)) nodes.old place x }
+    ensures others { Elsewhere N.none nodes.old nodes.new place }
+    ensures fresh { (turned : N → N) (call : Call N) → seat call ≡ place → comes N.none N.placed turned call (slice_index_or nodes.old (31 + place) N.none) ≡ x → Follows N.none N.placed turned (N.joined (W.Numbers.at b.now)) nodes.old nodes.new call }
 {
     check_seat(nodes.len(), place)?;
     Ok(replace(b, nodes, place, x))
@@ -100,8 +100,8 @@ fn step<N: Node + Copy, W: Numbers>(
 // Makes every node empty.
 pub fn clear<N: Node + Copy>(nodes: &mut [N]) -> Result<(), TreeRefusal>
     ensures answer { result ≡ sized (length nodes.old) tt }
-    ensures after { nodes.new ≡ emptied none nodes.old }
-    ensures fresh { length nodes.old ≡ 63 → (b : ℕ → ℕ) → b 0 ≡ 0 → (turned : N → N) → Begins none placed turned (joined b) nodes.new }
+    ensures after { nodes.new ≡ emptied N.none nodes.old }
+    ensures fresh { length nodes.old ≡ 63 → (b : ℕ → ℕ) → b 0 ≡ 0 → (turned : N → N) → Begins N.none N.placed turned (N.joined b) nodes.new }
 {
     let many = nodes.len();
     if many != 63 {
@@ -121,9 +121,9 @@ pub fn put<N: Node + Copy, W: Numbers>(
     leaf: N,
 ) -> Result<u32, TreeRefusal>
     ensures answer { result ≡ seated (length nodes.old) place 6 }
-    ensures after { nodes.new ≡ stepped none (joined (W.Numbers.at b.now)) nodes.old place (placed place leaf) }
-    ensures others { Elsewhere none nodes.old nodes.new place }
-    ensures fresh { (turned : N → N) → Follows none placed turned (joined (W.Numbers.at b.now)) nodes.old nodes.new (puts place leaf) }
+    ensures after { nodes.new ≡ stepped N.none (N.joined (W.Numbers.at b.now)) nodes.old place (N.placed place leaf) }
+    ensures others { Elsewhere N.none nodes.old nodes.new place }
+    ensures fresh { (turned : N → N) → Follows N.none N.placed turned (N.joined (W.Numbers.at b.now)) nodes.old nodes.new (puts place leaf) }
 {
     step(b, nodes, place, leaf.placed_at(place))
 }
@@ -135,9 +135,9 @@ pub fn grey<N: ThetaLambdaNode + Copy, W: Numbers>(
     place: usize,
 ) -> Result<u32, TreeRefusal>
     ensures answer { result ≡ seated (length nodes.old) place 6 }
-    ensures after { nodes.new ≡ stepped N.Node.none (N.Node.joined (W.Numbers.at b.now)) nodes.old place (N.Node.placed place (turned (slice_index_or nodes.old (31 + place) N.Node.none))) }
-    ensures others { Elsewhere N.Node.none nodes.old nodes.new place }
-    ensures fresh { Follows N.Node.none N.Node.placed turned (N.Node.joined (W.Numbers.at b.now)) nodes.old nodes.new (greys place) }
+    ensures after { nodes.new ≡ stepped N.none (N.joined (W.Numbers.at b.now)) nodes.old place (N.placed place (N.turned (slice_index_or nodes.old (31 + place) N.none))) }
+    ensures others { Elsewhere N.none nodes.old nodes.new place }
+    ensures fresh { Follows N.none N.placed N.turned (N.joined (W.Numbers.at b.now)) nodes.old nodes.new (greys place) }
 {
     let leaf = stands_at(nodes, place);
     step(b, nodes, place, leaf.greyed().placed_at(place))
@@ -150,9 +150,9 @@ pub fn drop<N: Node + Copy, W: Numbers>(
     place: usize,
 ) -> Result<u32, TreeRefusal>
     ensures answer { result ≡ seated (length nodes.old) place 6 }
-    ensures after { nodes.new ≡ stepped none (joined (W.Numbers.at b.now)) nodes.old place none }
-    ensures others { Elsewhere none nodes.old nodes.new place }
-    ensures fresh { (turned : N → N) → Follows none placed turned (joined (W.Numbers.at b.now)) nodes.old nodes.new (drops place) }
+    ensures after { nodes.new ≡ stepped N.none (N.joined (W.Numbers.at b.now)) nodes.old place N.none }
+    ensures others { Elsewhere N.none nodes.old nodes.new place }
+    ensures fresh { (turned : N → N) → Follows N.none N.placed turned (N.joined (W.Numbers.at b.now)) nodes.old nodes.new (drops place) }
 {
     step(b, nodes, place, N::empty())
 }
@@ -163,10 +163,10 @@ pub fn lift<N: Node + Copy, W: Numbers>(
     nodes: &mut [N],
     place: usize,
 ) -> Result<(Lifted<N>, u32), TreeRefusal>
-    ensures answer { read_off result ≡ seated (length nodes.old) place (place, slice_index_or nodes.old (31 + place) none, 6) }
-    ensures after { nodes.new ≡ stepped none (joined (W.Numbers.at b.now)) nodes.old place none }
-    ensures others { Elsewhere none nodes.old nodes.new place }
-    ensures fresh { (turned : N → N) → Follows none placed turned (joined (W.Numbers.at b.now)) nodes.old nodes.new (lifts place) }
+    ensures answer { read_off result ≡ seated (length nodes.old) place (place, slice_index_or nodes.old (31 + place) N.none, 6) }
+    ensures after { nodes.new ≡ stepped N.none (N.joined (W.Numbers.at b.now)) nodes.old place N.none }
+    ensures others { Elsewhere N.none nodes.old nodes.new place }
+    ensures fresh { (turned : N → N) → Follows N.none N.placed turned (N.joined (W.Numbers.at b.now)) nodes.old nodes.new (lifts place) }
 {
     let leaf = stands_at(nodes, place);
     let nothing = N::empty();
@@ -181,9 +181,9 @@ pub fn set_back<N: Node + Copy, W: Numbers>(
     token: Lifted<N>,
 ) -> Result<u32, StillLifted<N>>
     ensures answer { result ≡ (if eqb (length nodes.old) 63 then Ok 6 else Err (record { token = token; refusal = TreeRefusal.Size (length nodes.old) })) }
-    ensures after { nodes.new ≡ stepped none (joined (W.Numbers.at b.now)) nodes.old (place_of token) (leaf_of token) }
-    ensures others { Elsewhere none nodes.old nodes.new (place_of token) }
-    ensures fresh { (turned : N → N) → Follows none placed turned (joined (W.Numbers.at b.now)) nodes.old nodes.new (sets_back (place_of token) (leaf_of token)) }
+    ensures after { nodes.new ≡ stepped N.none (N.joined (W.Numbers.at b.now)) nodes.old (place_of token) (leaf_of token) }
+    ensures others { Elsewhere N.none nodes.old nodes.new (place_of token) }
+    ensures fresh { (turned : N → N) → Follows N.none N.placed turned (N.joined (W.Numbers.at b.now)) nodes.old nodes.new (sets_back (place_of token) (leaf_of token)) }
 {
     match step(b, nodes, token.place, token.leaf) {
         Ok(written) => {
@@ -196,7 +196,7 @@ pub fn set_back<N: Node + Copy, W: Numbers>(
 
 // The root.
 pub fn root<N: Node + Copy>(nodes: &[N]) -> Result<N, TreeRefusal>
-    ensures { result ≡ sized (length nodes.now) (slice_index_or nodes.now 0 none) }
+    ensures { result ≡ sized (length nodes.now) (slice_index_or nodes.now 0 N.none) }
 {
     let many = nodes.len();
     if many != 63 {
@@ -207,7 +207,7 @@ pub fn root<N: Node + Copy>(nodes: &[N]) -> Result<N, TreeRefusal>
 
 // The leaf of a place.
 pub fn leaf<N: Node + Copy>(nodes: &[N], place: usize) -> Result<N, TreeRefusal>
-    ensures { result ≡ seated (length nodes.now) place (slice_index_or nodes.now (31 + place) none) }
+    ensures { result ≡ seated (length nodes.now) place (slice_index_or nodes.now (31 + place) N.none) }
 {
     check_seat(nodes.len(), place)?;
     Ok(stands_at(nodes, place))

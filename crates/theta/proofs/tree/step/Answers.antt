@@ -2,8 +2,8 @@ use Rattle.std.proofs.Common.{rules}
 use Rattle.theta.proofs.Runnings.{follows}
 use Rattle.theta.proofs.tree.step.Goals as goal
 
-pub returns-in-err-check-seat : goal.returns-in-err-check-seat
-returns-in-err-check-seat g c =
+pub returns-in_err-check_seat : goal.returns-in_err-check_seat
+returns-in_err-check_seat g c =
     let none = g.N.Node.none in
     let b = g.W.Numbers.at c.args.b.now in
     let neutral = g.met.N.Node.left b none (g.met.W.Numbers.first c.args.b.now) g.met.N.Node.nothing in
