@@ -88,9 +88,9 @@ module _ (F : Face) (b : ℕ → ℕ) where
             let w = walked i hi in
             let a = rank_apart F.late F.n i j hi at.0 d in
             record {
-              to_come = λ l. let x = w.to-come (omega arith) in (flag ∙ x.0, end ∙ x.1);
+              to_come = λ l. let x = w.to_come (omega arith) in (flag ∙ x.0, end ∙ x.1);
               still_grey = λ y.
-                  let x = w.still-grey (sym flag ∙ y) in (
+                  let x = w.still_grey (sym flag ∙ y) in (
                     omega (arith, x.0),
                     end ∙ x.1,
                     λ k hk l m.
@@ -118,4 +118,4 @@ module _ (F : Face) (b : ℕ → ℕ) where
   -- where all are
   pub walked_all : (i : ℕ) (grey : Bool) (end : ℕ) → i < F.n → Walked F b 0 i grey end → end ≡ edge_early F b i
   walked_all i grey end hi w =
-      ⊎_elim (λ g. let x = w.still-grey g in x.1 ∙ edge_none i hi (λ k hk l. x.2 k hk (omega arith) l)) (λ f. w.resolved f (omega arith)) (cases_Bool grey)
+      ⊎_elim (λ g. let x = w.still_grey g in x.1 ∙ edge_none i hi (λ k hk l. x.2 k hk (omega arith) l)) (λ f. w.resolved f (omega arith)) (cases_Bool grey)

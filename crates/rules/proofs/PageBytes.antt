@@ -158,7 +158,7 @@ module _ (M : Model) where
         (stands_append p (at + 4) (at + 8) c.duration
         (stands_append p (at + 8) (at + 12) c.opens
         (stands_append p (at + 12) (at + 16) c.closes
-        (stands_append p (at + 16) (at + 20) c.held-opens c.held-closes (omega arith))
+        (stands_append p (at + 16) (at + 20) c.held_opens c.held_closes (omega arith))
         (omega arith))
         (omega arith))
         (omega arith))

@@ -206,8 +206,8 @@ module _ (f : Meaning) (p : List ℕ) (M : Model) (long : length p ≡ 1292) (r 
       (zero_then32 p (at + 4) (at + 8) (at + 24) (c.duration ∙ n.duration) (omega arith)
       (zero_then32 p (at + 8) (at + 12) (at + 24) (c.opens ∙ n.opens) (omega arith)
       (zero_then32 p (at + 12) (at + 16) (at + 24) (c.closes ∙ n.closes) (omega arith)
-      (zero_then32 p (at + 16) (at + 20) (at + 24) (c.held-opens ∙ n.held_opens) (omega arith)
-      (zero_then32 p (at + 20) (at + 24) (at + 24) (c.held-closes ∙ n.held_closes) (omega arith) (λ byte l u. absurd (omega arith))))))))
+      (zero_then32 p (at + 16) (at + 20) (at + 24) (c.held_opens ∙ n.held_opens) (omega arith)
+      (zero_then32 p (at + 20) (at + 24) (at + 24) (c.held_closes ∙ n.held_closes) (omega arith) (λ byte l u. absurd (omega arith))))))))
 
   page_clean : first_stray p M.book.setups M.book.chain ≡ None
   page_clean =
@@ -235,7 +235,7 @@ module _ (f : Meaning) (p : List ℕ) (M : Model) (long : length p ≡ 1292) (r 
   page_agrees =
       and_from _ _ (eq-eqb _ _ r.status)
       (and_from _ _ (eq-eqb _ _ r.rounds)
-      (all_held p M M.book.chain (λ card m. let c = r.cards card (on_card card m) in (c.held-opens, c.held-closes))))
+      (all_held p M M.book.chain (λ card m. let c = r.cards card (on_card card m) in (c.held_opens, c.held_closes))))
 
   sheet_same : page_sheet f (le16 p 6) M.book ≡ M
   sheet_same =

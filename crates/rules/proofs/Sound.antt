@@ -20,4 +20,4 @@ rules_hold F b fine law = record {
 }
 
 pub turning_holds : TurningAlwaysHolds
-turning_holds = turns.turning-holds
+turning_holds = turns.turning_holds

@@ -1,5 +1,6 @@
 // What settling means, and that every rule is sound.
 #![tactic(auto)]
+
 ghost use Rattle.rules.specs.Theorems.{RulesAlwaysHold, TurningAlwaysHolds, SettlingAlwaysHolds};
 ghost use Rattle.rules.specs.Histories.{PromisesKept};
 

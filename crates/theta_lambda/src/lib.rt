@@ -1,5 +1,6 @@
 // What the root of a tree of white and grey leaves tells.
 #![tactic(auto)]
+
 ghost use Rattle.std.specs.Prelude.{◌≡◌, length, slice_index_or};
 ghost use Rattle.theta.specs.Refusals.{sized};
 ghost use Rattle.theta_nodes.specs.Grey.{empty_grey};

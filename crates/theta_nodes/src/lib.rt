@@ -1,5 +1,6 @@
 // The nodes of white leaves, and of white and grey leaves.
 #![tactic(auto)]
+
 mod grey;
 mod white;
 
