@@ -1,5 +1,6 @@
 // The cards that are on a sheet, in posting order.
 #![tactic(auto)]
+
 mod chain;
 
 pub use chain::Chain;

@@ -1,5 +1,6 @@
 // The worked examples: as theorems that compute, and as tests that run.
 #![tactic(auto)]
+
 ghost use Rattle.examples.specs.Examples.{WorkedExamples};
 
 #[cfg(test)]

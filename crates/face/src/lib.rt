@@ -1,5 +1,6 @@
 // The windows, durations and gaps of some jobs, as a half round reads them.
 #![tactic(auto)]
+
 mod face;
 mod grey_tree;
 mod job;

@@ -1,8 +1,10 @@
 // A kind of bound, or the larger of two.
-ghost use Rattle.kinds.specs.Chosen.{choice_at, choice_numbers};
+ghost use Rattle.changeover.specs.Laws.{larger_lawful};
+ghost use Rattle.kinds.specs.declared.chosen.Choice.TheVariants as choice;
+ghost use Rattle.kinds.specs.Chosen.{kind_at, choice_at, choice_numbers};
 ghost use Rattle.std.proofs.Common.{arith, rules};
 ghost use Rattle.kinds.specs.declared.chosen.ChoiceNumbers.TheVariants.{One, Two};
-ghost use Rattle.kinds.specs.Chosens.{numbers_bounded, numbers_past};
+ghost use Rattle.kinds.specs.Chosens.{numbers_bounded, numbers_past, kind_lawful};
 
 use crate::chosen::{Choice, ChoiceNumbers};
 use changeover::{Bound, Gaps, Larger, Numbers};
@@ -34,6 +36,11 @@ impl Bound for Choice {
     type Worked = ChoiceNumbers;
 
     ghost becomes = { choice_at };
+
+    ghost keeps = { elim [
+      | choice.One kind ↦ λ n gap. kind_lawful kind n gap
+      | choice.Larger one other ↦ λ n gap. larger_lawful n gap (kind_at one n gap) (kind_at other n gap) (kind_lawful one n gap) (kind_lawful other n gap)
+    ] };
 
     fn work_out(self, gaps: &Gaps) -> ChoiceNumbers {
         match self {

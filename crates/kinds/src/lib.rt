@@ -1,5 +1,6 @@
 // Bounds that are chosen as a program runs.
 #![tactic(auto)]
+
 ghost use Rattle.kinds.specs.Chosen.{kind_at, numbers_at};
 ghost use Rattle.kinds.specs.Chosens.{numbers_bounded, numbers_past, kind_lawful};
 ghost use Rattle.std.proofs.Common.{rules};

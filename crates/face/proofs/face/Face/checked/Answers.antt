@@ -4,4 +4,4 @@ use Rattle.face.proofs.face.Face.checked.Goals as goal
 
 pub returns : goal.returns
 unfolding shown
-returns c = ((λ j h. c.if-not-all-in-limits.ensures j (omega arith)), refl)
+returns c = ((λ j h. c.if-not-all_in_limits.ensures j (omega arith)), refl)

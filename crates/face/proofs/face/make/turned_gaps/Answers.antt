@@ -5,9 +5,9 @@ use Rattle.face.proofs.face.make.turned_gaps.Goals as goal
 
 pub loop-i-preserved : goal.loop-i-preserved
 loop-i-preserved c = (
-  c.turn-row.ensures.jobs ∙ c.loop-i.invariant.0,
+  c.turn_row.ensures.jobs ∙ c.loop-i.invariant.0,
   λ a b h.
-      ⊎_elim (λ e. rw e (c.turn-row.ensures.row b)) (λ ne. c.turn-row.ensures.others a b ne ∙ c.loop-i.invariant.1 a b (omega arith)) (cases_eq a c.loop-i.i),
+      ⊎_elim (λ e. rw e (c.turn_row.ensures.row b)) (λ ne. c.turn_row.ensures.others a b ne ∙ c.loop-i.invariant.1 a b (omega arith)) (cases_eq a c.loop-i.i),
 )
 
 pub returns : goal.returns

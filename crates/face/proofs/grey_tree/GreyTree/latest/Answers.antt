@@ -27,7 +27,7 @@ returns g c =
           elim c.match-root.branch [
             | in-Some w ↦
                 let who = c.told.ensures.job ∙ w.job-is in
-                subst (λ x. TellsJobs F b S G x c.told.result.job) (sym late) (subst (TellsJobs F b S G root.grey.finish) (sym who) (tells_some F b ok S G apart root (told S G h) _ w.job-at.result w.in-Some.is w.job-at.ensures.job))
+                subst (λ x. TellsJobs F b S G x c.told.result.job) (sym late) (subst (TellsJobs F b S G root.grey.finish) (sym who) (tells_some F b ok S G apart root (told S G h) _ w.job_at.result w.in-Some.is w.job_at.ensures.job))
             | in-None w ↦
                 let who = c.told.ensures.job ∙ w.job-is in
                 subst (λ x. TellsJobs F b S G x c.told.result.job) (sym late) (subst (TellsJobs F b S G root.grey.finish) (sym who) (tells_none F b ok S G apart root (told S G h) w.in-None.is))

@@ -8,5 +8,5 @@ use Rattle.face.proofs.reading.calls.by_earliest_finish.Goals as goal
 pub returns : goal.returns
 returns c =
     let F = c.args.face.now in
-    let key : ℕ → ℕ = λ k. get_or c.earliest-finishes.result k 0 in
-    listed_same (shown F).n key (earliest_finish (shown F)) c.order.result c.earliest-finishes.ensures (subst (λ m. Listed m key c.order.result) c.jobs.ensures.value c.order.ensures)
+    let key : ℕ → ℕ = λ k. get_or c.earliest_finishes.result k 0 in
+    listed_same (shown F).n key (earliest_finish (shown F)) c.order.result c.earliest_finishes.ensures (subst (λ m. Listed m key c.order.result) c.jobs.ensures.value c.order.ensures)

@@ -5,7 +5,7 @@ pub loop-j-preserved : goal.loop-j-preserved
 loop-j-preserved c =
     let all = c.loop-j.all in
     let j = c.loop-j.j in
-    let x = c.latest-start.result in (
+    let x = c.latest_start.result in (
       length-set all j x ∙ c.loop-j.invariant.0,
-      below_more _ _ (λ k h. get_or-set_other all j k x 0 (omega arith) ∙ c.loop-j.invariant.1 k h) (get_or-set_same all j x 0 (omega arith) ∙ c.latest-start.ensures.value),
+      below_more _ _ (λ k h. get_or-set_other all j k x 0 (omega arith) ∙ c.loop-j.invariant.1 k h) (get_or-set_same all j x 0 (omega arith) ∙ c.latest_start.ensures.value),
     )

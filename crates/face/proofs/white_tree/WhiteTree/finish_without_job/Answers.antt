@@ -16,7 +16,7 @@ returns g c =
     let i = c.args.i in
     let T = c.args.self.now in
     let T₁ : WhiteTree = record { nodes = c.lift.new.nodes } in
-    let T₂ : WhiteTree = record { nodes = c.set-back.new.nodes } in
+    let T₂ : WhiteTree = record { nodes = c.set_back.new.nodes } in
     let few = (fine R.face).few in
     let inside : i < F.n = omega arith in
     let at = c.place.ensures.value inside in
@@ -25,5 +25,5 @@ returns g c =
     let out : (S : ℕ → Bool) → Holds F b S T → Holds F b (but i S) T₁ = λ S h. holds_lifted F b few S T T₁ i c.place.result inside at (c.in-Ok.ensures.fresh (λ x. x)) h in
     record {
       value = λ S h. c.finish-finish.ensures F b (but i S) (out S h);
-      kept = λ S h. holds_back F b few S T T₁ T₂ i c.place.result (place_of token) (leaf_of token) inside at was.0 was.1 (c.in-Ok-set-back.ensures.fresh (λ x. x)) h (out S h);
+      kept = λ S h. holds_back F b few S T T₁ T₂ i c.place.result (place_of token) (leaf_of token) inside at was.0 was.1 (c.in-Ok-set_back.ensures.fresh (λ x. x)) h (out S h);
     }
