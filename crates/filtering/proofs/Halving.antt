@@ -11,7 +11,7 @@ use Rattle.rules.proofs.Searches.{such_none}
 use Rattle.face.specs.Shown.{SomeOut}
 use Rattle.face.proofs.Fines.{limits_from}
 use Rattle.face.proofs.Alike.{of_job_same}
-use Rattle.filtering.specs.Pairs.{over_for, precedes}
+use Rattle.filtering.specs.Pairs.{over_for}
 use Rattle.filtering.proofs.Finds.{such_same}
 
 -- whether a job of a higher card clashes with job i
@@ -38,7 +38,7 @@ clashing_at F i j e f = ap (λ (o : Option ℕ). elim o [ None ↦ None | Some j
 
 -- job j has to come before job i
 abbrev pub comes_first : Face → ℕ → ℕ → Bool
-comes_first F i j = not (eqb j i) && not (precedes F i j)
+comes_first F i j = not (eqb j i) && not (can_precede F i j)
 
 -- and then i starts no earlier than this
 abbrev pub after_it : Face → ℕ → ℕ → ℕ

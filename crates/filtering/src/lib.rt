@@ -1,5 +1,6 @@
 // Settling as it runs: the rules over a face, half rounds, rounds, and settling.
 #![tactic(auto)]
+
 mod detected;
 mod edges;
 mod half;

@@ -29,37 +29,37 @@ sum-requires g c =
     let F = read c.args.reading.now in
     let b = g.W.Numbers.at c.args.b.now in
     let t = c.loop-t.t in
-    let i = c.finishing-job-i.result in
-    let limit = c.earliest-finish-limit.result in
+    let i = c.finishing_job-i.result in
+    let limit = c.earliest_finish-limit.result in
     let face = c.face-face.ensures in
-    let at : HasRank F.n (earliest_finish F) t i = c.finishing-job-i.ensures.job (omega (arith, ap (λ x. x.n) face)) in
-    let is-limit : limit ≡ (earliest_finish F) i = c.earliest-finish-limit.ensures.value ∙ ap (λ x. (earliest_finish x) i) face in
+    let at : HasRank F.n (earliest_finish F) t i = c.finishing_job-i.ensures.job (omega (arith, ap (λ x. x.n) face)) in
+    let is-limit : limit ≡ (earliest_finish F) i = c.earliest_finish-limit.ensures.value ∙ ap (λ x. (earliest_finish x) i) face in
     let q = c.fill-q.result in
     let filled : Filled F b q limit c.fill-q.new.tree = c.fill-q.ensures c.loop-t.invariant.2.0 (omega (arith, c.loop-t.invariant.2.2 i at.0 (omega (arith, at.1)))) c.loop-t.invariant.2.1 in
-    let finish : c.finish-without-finish.result ≡ E F b (but i (firsts F.n (latest_start F) q)) = c.finish-without-finish.ensures.value (firsts F.n (latest_start F) q) filled.holds in
-    (at_most c.finish-without-finish.result (subst Timed (sym finish) (E_timed F b (fine c.args.reading.now.face) (but i (firsts F.n (latest_start F) q)))), c.least-gap-gap.ensures.small)
+    let finish : c.finish_without-finish.result ≡ E F b (but i (firsts F.n (latest_start F) q)) = c.finish_without-finish.ensures.value (firsts F.n (latest_start F) q) filled.holds in
+    (at_most c.finish_without-finish.result (subst Timed (sym finish) (E_timed F b (fine c.args.reading.now.face) (but i (firsts F.n (latest_start F) q)))), c.least_gap-gap.ensures.small)
 
 pub loop-t-preserved : goal.loop-t-preserved
 loop-t-preserved g c =
     let F = read c.args.reading.now in
     let b = g.W.Numbers.at c.args.b.now in
     let t = c.loop-t.t in
-    let i = c.finishing-job-i.result in
-    let limit = c.earliest-finish-limit.result in
+    let i = c.finishing_job-i.result in
+    let limit = c.earliest_finish-limit.result in
     let face = c.face-face.ensures in
-    let at : HasRank F.n (earliest_finish F) t i = c.finishing-job-i.ensures.job (omega (arith, ap (λ x. x.n) face)) in
-    let is-limit : limit ≡ (earliest_finish F) i = c.earliest-finish-limit.ensures.value ∙ ap (λ x. (earliest_finish x) i) face in
+    let at : HasRank F.n (earliest_finish F) t i = c.finishing_job-i.ensures.job (omega (arith, ap (λ x. x.n) face)) in
+    let is-limit : limit ≡ (earliest_finish F) i = c.earliest_finish-limit.ensures.value ∙ ap (λ x. (earliest_finish x) i) face in
     let q = c.fill-q.result in
     let filled : Filled F b q limit c.fill-q.new.tree = c.fill-q.ensures c.loop-t.invariant.2.0 (omega (arith, c.loop-t.invariant.2.2 i at.0 (omega (arith, at.1)))) c.loop-t.invariant.2.1 in
-    let finish : c.finish-without-finish.result ≡ E F b (but i (firsts F.n (latest_start F) q)) = c.finish-without-finish.ensures.value (firsts F.n (latest_start F) q) filled.holds in
-    let gap : c.least-gap-gap.result ≡ least_over (but i (under F limit)) (λ j. F.gap j i) F.n =
-    c.least-gap-gap.ensures.value (but i (under (shown c.face-face.result.now) limit)) c.others-under.ensures ∙ ap (λ x. least_over (but i (under x limit)) (λ j. x.gap j i) x.n) face in
-    let all : c.sum.result ≡ after F b (but i (under F limit)) i = c.sum.ensures ∙ sum_under F b q i limit filled.same c.finish-without-finish.result c.least-gap-gap.result finish gap in
-    let is : c.or-zero.result ≡ detected_early F b i = c.or-zero.ensures ∙ detected_is F b i limit c.sum.result is-limit all in
-    let v = c.or-zero.result in (
+    let finish : c.finish_without-finish.result ≡ E F b (but i (firsts F.n (latest_start F) q)) = c.finish_without-finish.ensures.value (firsts F.n (latest_start F) q) filled.holds in
+    let gap : c.least_gap-gap.result ≡ least_over (but i (under F limit)) (λ j. F.gap j i) F.n =
+    c.least_gap-gap.ensures.value (but i (under (shown c.face-face.result.now) limit)) c.others_under.ensures ∙ ap (λ x. least_over (but i (under x limit)) (λ j. x.gap j i) x.n) face in
+    let all : c.sum.result ≡ after F b (but i (under F limit)) i = c.sum.ensures ∙ sum_under F b q i limit filled.same c.finish_without-finish.result c.least_gap-gap.result finish gap in
+    let is : c.or_zero.result ≡ detected_early F b i = c.or_zero.ensures ∙ detected_is F b i limit c.sum.result is-limit all in
+    let v = c.or_zero.result in (
       length-set c.loop-t.out i v ∙ c.loop-t.invariant.0,
       written_more F.n (earliest_finish F) (detected_early F b) c.loop-t.out i t v (omega (arith, c.loop-t.invariant.0, at.0, (fine c.args.reading.now.face).few)) at is c.loop-t.invariant.1,
-      (limit, record { holds = c.finish-without-finish.ensures.kept (firsts F.n (latest_start F) q) filled.holds; same = filled.same }, λ k hk l. omega (arith, is-limit, rank_key (earliest_finish F) F.n i k at.0 hk (omega (arith, at.1)))),
+      (limit, record { holds = c.finish_without-finish.ensures.kept (firsts F.n (latest_start F) q) filled.holds; same = filled.same }, λ k hk l. omega (arith, is-limit, rank_key (earliest_finish F) F.n i k at.0 hk (omega (arith, at.1)))),
     )
 
 pub returns : goal.returns

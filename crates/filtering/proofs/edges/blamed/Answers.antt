@@ -4,20 +4,20 @@ use Rattle.face.specs.Readings.{read}
 use Rattle.filtering.proofs.Crowds.{blames_one, blames_none}
 use Rattle.filtering.proofs.edges.blamed.Goals as goal
 
-pub returns-then-is-above : goal.returns-then-is-above
-returns-then-is-above g c =
+pub returns-then-is_above : goal.returns-then-is_above
+returns-then-is_above g c =
     let F = read c.args.reading.now in
     let j = c.args.j in
     let latest = c.latest-latest.result in
     let limit : c.late.result ≡ F.late j = c.late.ensures.value ∙ ap (λ x. x.late j) c.face.ensures in
     λ G apart h calm.
-    blames_one F (g.W.Numbers.at c.args.b.now) j G latest.with_grey latest.job (c.latest-latest.ensures.grey (up_to F j) G apart h) calm (ap (above latest.with_grey) (sym limit) ∙ sym c.is-above.ensures ∙ c.if-is-above.true)
+    blames_one F (g.W.Numbers.at c.args.b.now) j G latest.with_grey latest.job (c.latest-latest.ensures.grey (up_to F j) G apart h) calm (ap (above latest.with_grey) (sym limit) ∙ sym c.is_above.ensures ∙ c.if-is_above.true)
 
-pub returns-else-is-above : goal.returns-else-is-above
-returns-else-is-above g c =
+pub returns-else-is_above : goal.returns-else-is_above
+returns-else-is_above g c =
     let F = read c.args.reading.now in
     let j = c.args.j in
     let latest = c.latest-latest.result in
     let limit : c.late.result ≡ F.late j = c.late.ensures.value ∙ ap (λ x. x.late j) c.face.ensures in
     λ G apart h calm.
-    blames_none F (g.W.Numbers.at c.args.b.now) j G latest.with_grey latest.job (c.latest-latest.ensures.grey (up_to F j) G apart h) (ap (above latest.with_grey) (sym limit) ∙ sym c.is-above.ensures ∙ c.if-is-above.false)
+    blames_none F (g.W.Numbers.at c.args.b.now) j G latest.with_grey latest.job (c.latest-latest.ensures.grey (up_to F j) G apart h) (ap (above latest.with_grey) (sym limit) ∙ sym c.is_above.ensures ∙ c.if-is_above.false)

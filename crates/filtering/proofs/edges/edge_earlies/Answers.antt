@@ -19,10 +19,10 @@ loop-t-init g c =
     let b = g.W.Numbers.at c.args.b.now in
     let many : c.jobs-t.result ≡ F.n = c.jobs-t.ensures.value ∙ ap (λ x. x.n) c.face.ensures in (
       omega arith,
-      c.no-flags-greys.ensures.long,
+      c.no_flags-greys.ensures.long,
       c.zeros-out.ensures.long,
-      c.all-white-tree.ensures (firsts F.n F.late c.jobs-t.result) (flagged c.no-flags-greys.result) (λ k hk. lt-ltb _ _ (omega (arith, rank_below F.late F.n k hk))) (λ k _. c.no-flags-greys.ensures.each k),
-      λ i hi. walked_none F b c.jobs-t.result i (flagged c.no-flags-greys.result i) (get_or c.zeros-out.result i 0) (omega (arith, rank_below F.late F.n i hi)) (c.no-flags-greys.ensures.each i) (c.zeros-out.ensures.each i),
+      c.all_white-tree.ensures (firsts F.n F.late c.jobs-t.result) (flagged c.no_flags-greys.result) (λ k hk. lt-ltb _ _ (omega (arith, rank_below F.late F.n k hk))) (λ k _. c.no_flags-greys.ensures.each k),
+      λ i hi. walked_none F b c.jobs-t.result i (flagged c.no_flags-greys.result i) (get_or c.zeros-out.result i 0) (omega (arith, rank_below F.late F.n i hi)) (c.no_flags-greys.ensures.each i) (c.zeros-out.ensures.each i),
     )
 
 pub resolve-requires : goal.resolve-requires
@@ -30,9 +30,9 @@ resolve-requires g c =
     let F = read c.args.reading.now in
     let b = g.W.Numbers.at c.args.b.now in
     let t : ℕ = c.loop-t.t - 1 in
-    let j = c.late-job-j.result in
+    let j = c.late_job-j.result in
     let next : c.loop-t.t ≡ t + 1 = omega arith in
-    let at : HasRank F.n F.late t j = c.late-job-j.ensures.job (omega (arith, c.loop-t.invariant.0)) in
+    let at : HasRank F.n F.late t j = c.late_job-j.ensures.job (omega (arith, c.loop-t.invariant.0)) in
     let walked : (i : ℕ) → i < F.n → Walked F b (t + 1) i (flagged c.loop-t.greys i) (get_or c.loop-t.out i 0) = λ i hi. subst (λ s. Walked F b s i (flagged c.loop-t.greys i) (get_or c.loop-t.out i 0)) next (c.loop-t.invariant.4 i hi) in
     let holds : HoldsBoth F b (firsts F.n F.late (t + 1)) (flagged c.loop-t.greys) c.loop-t.tree = subst (λ s. HoldsBoth F b (firsts F.n F.late s) (flagged c.loop-t.greys) c.loop-t.tree) next c.loop-t.invariant.3 in
     record {
@@ -47,9 +47,9 @@ loop-t-preserved g c =
     let F = read c.args.reading.now in
     let b = g.W.Numbers.at c.args.b.now in
     let t : ℕ = c.loop-t.t - 1 in
-    let j = c.late-job-j.result in
+    let j = c.late_job-j.result in
     let next : c.loop-t.t ≡ t + 1 = omega arith in
-    let at : HasRank F.n F.late t j = c.late-job-j.ensures.job (omega (arith, c.loop-t.invariant.0)) in
+    let at : HasRank F.n F.late t j = c.late_job-j.ensures.job (omega (arith, c.loop-t.invariant.0)) in
     let walked : (i : ℕ) → i < F.n → Walked F b (t + 1) i (flagged c.loop-t.greys i) (get_or c.loop-t.out i 0) = λ i hi. subst (λ s. Walked F b s i (flagged c.loop-t.greys i) (get_or c.loop-t.out i 0)) next (c.loop-t.invariant.4 i hi) in
     let greys = c.resolve.new.greys in
     let many : length greys ≡ 32 = omega (arith, c.loop-t.invariant.1) in

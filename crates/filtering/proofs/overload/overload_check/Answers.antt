@@ -16,31 +16,31 @@ loop-t-init g c =
       λ k h l. absurd (omega arith),
     )
 
-pub returns-then-is-above : goal.returns-then-is-above
-returns-then-is-above g c =
+pub returns-then-is_above : goal.returns-then-is_above
+returns-then-is_above g c =
     let F = read c.args.reading.now in
     let b = g.W.Numbers.at c.args.b.now in
     let t = c.loop-t.t in
-    let j = c.late-job-j.result in
+    let j = c.late_job-j.result in
     let S : ℕ → Bool = firsts F.n F.late t in
     let S' : ℕ → Bool = firsts F.n F.late (t + 1) in
-    let at : HasRank F.n F.late t j = c.late-job-j.ensures.job (omega (arith, ap (λ x. x.n) c.face.ensures)) in
+    let at : HasRank F.n F.late t j = c.late_job-j.ensures.job (omega (arith, ap (λ x. x.n) c.face.ensures)) in
     let h : Holds F b S' c.enter.new.self = holds_same F b (with_job j S) S' c.enter.new.self (firsts_with F.n F.late j t at) (c.enter.ensures S c.loop-t.invariant.0) in
     let is = too_much_is F b j t c.finish.result c.late.result at (c.finish.ensures F b S' h) (c.late.ensures.value ∙ ap (λ x. x.late j) c.face-in-loop-t.ensures) in
-    overloading_some F b j t at (sym is ∙ sym c.is-above.ensures ∙ c.if-is-above.true) c.loop-t.invariant.1
+    overloading_some F b j t at (sym is ∙ sym c.is_above.ensures ∙ c.if-is_above.true) c.loop-t.invariant.1
 
 pub loop-t-preserved : goal.loop-t-preserved
 loop-t-preserved g c =
     let F = read c.args.reading.now in
     let b = g.W.Numbers.at c.args.b.now in
     let t = c.loop-t.t in
-    let j = c.late-job-j.result in
+    let j = c.late_job-j.result in
     let S : ℕ → Bool = firsts F.n F.late t in
     let S' : ℕ → Bool = firsts F.n F.late (t + 1) in
-    let at : HasRank F.n F.late t j = c.late-job-j.ensures.job (omega (arith, ap (λ x. x.n) c.face.ensures)) in
+    let at : HasRank F.n F.late t j = c.late_job-j.ensures.job (omega (arith, ap (λ x. x.n) c.face.ensures)) in
     let h : Holds F b S' c.enter.new.self = holds_same F b (with_job j S) S' c.enter.new.self (firsts_with F.n F.late j t at) (c.enter.ensures S c.loop-t.invariant.0) in
     let is = too_much_is F b j t c.finish.result c.late.result at (c.finish.ensures F b S' h) (c.late.ensures.value ∙ ap (λ x. x.late j) c.face-in-loop-t.ensures) in
-    (h, seen_more F.n F.late (λ k. too_much F b k ≡ false) j t at c.loop-t.invariant.1 (sym is ∙ sym c.is-above.ensures ∙ c.if-is-above.false))
+    (h, seen_more F.n F.late (λ k. too_much F b k ≡ false) j t at c.loop-t.invariant.1 (sym is ∙ sym c.is_above.ensures ∙ c.if-is_above.false))
 
 pub returns : goal.returns
 returns g c =

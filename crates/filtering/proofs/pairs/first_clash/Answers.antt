@@ -9,7 +9,7 @@ pub loop-i-init : goal.loop-i-init
 loop-i-init c = such_start (clashes_with (shown c.args.face.now))
 
 pub loop-i-preserved : goal.loop-i-preserved
-loop-i-preserved c = such_more (clashes_with (shown c.args.face.now)) c.loop-i.i c.loop-i.invariant (ap found c.in-default.ensures)
+loop-i-preserved c = such_more (clashes_with (shown c.args.face.now)) c.loop-i.i c.loop-i.invariant (ap found c.in_default.ensures)
 
 pub returns-in-Some : goal.returns-in-Some
 returns-in-Some c =

@@ -9,13 +9,13 @@ loop-j-init c = such_start (clash (shown c.args.face.now) c.args.i)
 
 pub loop-j-preserved : goal.loop-j-preserved
 unfolding clash can_precede
-loop-j-preserved c = such_more (clash (shown c.args.face.now) c.args.i) c.loop-j.j c.loop-j.invariant c.if-is-clash.ensures
+loop-j-preserved c = such_more (clash (shown c.args.face.now) c.args.i) c.loop-j.j c.loop-j.invariant c.if-is_clash.ensures
 
-pub returns-then-is-clash : goal.returns-then-is-clash
+pub returns-then-is_clash : goal.returns-then-is_clash
 unfolding clash can_precede
-returns-then-is-clash c =
+returns-then-is_clash c =
     let F = shown c.args.face.now in
-    such_at (clash F c.args.i) c.loop-j.j F.n c.loop-j.invariant c.if-is-clash.ensures (omega (arith, c.jobs-j-end.ensures.value))
+    such_at (clash F c.args.i) c.loop-j.j F.n c.loop-j.invariant c.if-is_clash.ensures (omega (arith, c.jobs-j-end.ensures.value))
 
 pub returns : goal.returns
 returns c =

@@ -2,10 +2,10 @@ use Rattle.std.proofs.Common.{arith}
 use Rattle.rules.specs.Rules.{clash}
 use Rattle.filtering.proofs.pairs.is_clash.Goals as goal
 
-pub returns-then-not-can-precede : goal.returns-then-not-can-precede
+pub returns-then-not-can_precede : goal.returns-then-not-can_precede
 unfolding clash
-returns-then-not-can-precede c = grind arith
+returns-then-not-can_precede c = grind arith
 
-pub returns-else-not-can-precede : goal.returns-else-not-can-precede
+pub returns-else-not-can_precede : goal.returns-else-not-can_precede
 unfolding clash
-returns-else-not-can-precede c = grind arith
+returns-else-not-can_precede c = grind arith

@@ -9,4 +9,4 @@ loop-i-preserved c =
     let xs = c.loop-i.earlies in
     let i = c.loop-i.i in
     let h : i < length xs = omega arith in
-    (simp length-set c.loop-i.invariant.0, filled_more (pair_early (shown c.args.face.now)) xs i c.pair-early.result h c.loop-i.invariant.1 c.pair-early.ensures)
+    (simp length-set c.loop-i.invariant.0, filled_more (pair_early (shown c.args.face.now)) xs i c.pair_early.result h c.loop-i.invariant.1 c.pair_early.ensures)

@@ -9,4 +9,4 @@ returns-in-Overloaded g c = round_first (shown c.args.face.now) (g.W.Numbers.at 
 
 pub returns-in-GoesOn : goal.returns-in-GoesOn
 returns-in-GoesOn g c =
-    c.after-second.ensures ∙ round_second (shown c.args.face.now) (g.W.Numbers.at c.args.b.now) (shown c.in-GoesOn.first) (half_of c.second-half.result) c.in-GoesOn.ensures c.second-half.ensures
+    c.after_second.ensures ∙ round_second (shown c.args.face.now) (g.W.Numbers.at c.args.b.now) (shown c.in-GoesOn.first) (half_of c.second_half.result) c.in-GoesOn.ensures c.second_half.ensures

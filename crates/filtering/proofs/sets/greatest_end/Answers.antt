@@ -17,7 +17,7 @@ loop-k-preserved c =
     λ S flags.
     elim c.if-flags-k.branch [
       | then-flags-k w ↦
-          let e : c.if-flags-k.end ≡ max c.loop-k.end (latest_start F k - F.gap c.args.i k) = omega (arith, w.end-is, w.end-before.ensures, w.greater-end.ensures) in
+          let e : c.if-flags-k.end ≡ max c.loop-k.end (latest_start F k - F.gap c.args.i k) = omega (arith, w.end-is, w.end_before.ensures, w.greater-end.ensures) in
           e ∙ greatest_takes S f k c.loop-k.end (sym (flags k (omega arith)) ∙ w.if-flags-k.true) (c.loop-k.invariant S flags)
       | else-flags-k w ↦ w.end-is ∙ greatest_keeps S f k c.loop-k.end (sym (flags k (omega arith)) ∙ w.if-flags-k.false) (c.loop-k.invariant S flags)
     ]

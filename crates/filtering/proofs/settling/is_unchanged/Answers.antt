@@ -8,12 +8,12 @@ pub loop-j-init : goal.loop-j-init
 loop-j-init c = same_start (shown c.args.before.now) (shown c.args.after.now)
 
 pub loop-j-preserved : goal.loop-j-preserved
-loop-j-preserved c = same_more (shown c.args.before.now) (shown c.args.after.now) c.loop-j.j c.loop-j.invariant c.if-not-has-same-window.ensures
+loop-j-preserved c = same_more (shown c.args.before.now) (shown c.args.after.now) c.loop-j.j c.loop-j.invariant c.if-not-has_same_window.ensures
 
-pub returns-then-not-has-same-window : goal.returns-then-not-has-same-window
-returns-then-not-has-same-window c =
+pub returns-then-not-has_same_window : goal.returns-then-not-has_same_window
+returns-then-not-has_same_window c =
     let F = shown c.args.before.now in
-    same_not F (shown c.args.after.now) c.loop-j.j F.n (omega (arith, c.jobs-j-end.ensures.value)) c.if-not-has-same-window.ensures
+    same_not F (shown c.args.after.now) c.loop-j.j F.n (omega (arith, c.jobs-j-end.ensures.value)) c.if-not-has_same_window.ensures
 
 pub returns : goal.returns
 returns c =

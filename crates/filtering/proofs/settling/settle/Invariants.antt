@@ -4,7 +4,7 @@ use Rattle.filtering.proofs.Runs.{Came}
 use Rattle.filtering.proofs.settling.settle.Given as goal
 
 abbrev pub invariant-loop-cause : goal.invariant-loop-cause
-invariant-loop-cause g l = Came (g.Worked.Numbers.at l.b) (shown l.face) (shown l.current) l.rounds
+invariant-loop-cause g l = Came (g.B.Worked.Numbers.at l.b) (shown l.face) (shown l.current) l.rounds
 
 abbrev pub decreases-loop-cause : goal.decreases-loop-cause
 decreases-loop-cause g l = all_minutes (shown l.current)

@@ -9,14 +9,14 @@ loop-i-init c = such_start (is_short (shown c.args.face.now) c.args.early.now c.
 
 pub loop-i-preserved : goal.loop-i-preserved
 loop-i-preserved c =
-    let e = c.if-is-short.ensures in
+    let e = c.if-is_short.ensures in
     let d = c.duration.ensures.value in
     such_more (is_short (shown c.args.face.now) c.args.early.now c.args.late.now) c.loop-i.i c.loop-i.invariant (cc)
 
-pub returns-then-is-short : goal.returns-then-is-short
-returns-then-is-short c =
+pub returns-then-is_short : goal.returns-then-is_short
+returns-then-is_short c =
     let F = shown c.args.face.now in
-    let e = c.if-is-short.ensures in
+    let e = c.if-is_short.ensures in
     let d = c.duration.ensures.value in
     such_at (is_short F c.args.early.now c.args.late.now) c.loop-i.i F.n c.loop-i.invariant (cc) (omega (arith, c.jobs-i-end.ensures.value))
 

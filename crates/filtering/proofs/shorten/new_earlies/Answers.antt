@@ -17,9 +17,9 @@ loop-i-preserved g c =
     let here : i < (shown c.face-face.result.now).n = omega (arith, c.jobs-i-end.ensures.value) in
     let there : i < F.n = omega (arith, ap (λ X. X.n) same) in
     let early = c.early.ensures.value ∙ ap (λ X. X.early i) same in
-    let pairs = c.pair-earlies-pairs.ensures i here ∙ ap (λ X. pair_early X i) same in
-    let detected = c.detected-earlies-detected.ensures i there in
-    let edges = c.edge-earlies-edges.ensures i there in (
+    let pairs = c.pair_earlies-pairs.ensures i here ∙ ap (λ X. pair_early X i) same in
+    let detected = c.detected_earlies-detected.ensures i there in
+    let edges = c.edge_earlies-edges.ensures i there in (
       simp length-set c.loop-i.invariant.0,
       filled_more (new_early F b) xs i _ h c.loop-i.invariant.1 (omega (arith, new_early_is F b i)),
     )

@@ -15,7 +15,7 @@ loop-i-preserved g c =
     let h : i < length xs = omega arith in
     let there : i < F.n = omega (arith, c.jobs-i-end.ensures.value, ap (λ X. X.n) same) in
     let late = c.late.ensures.value ∙ ap (λ X. X.late i) same in
-    let rivals = c.not-last-lates-not-last.ensures i there in (
+    let rivals = c.not_last_lates-not_last.ensures i there in (
       simp length-set c.loop-i.invariant.0,
       filled_more (new_late F b) xs i _ h c.loop-i.invariant.1 (omega (arith, new_late_is F b i)),
     )
