@@ -1,5 +1,6 @@
 // Settles the cases of standard input, one a line, and writes how each ends.
 #![tactic(auto)]
+
 mod cases;
 mod scripted;
 mod show;

@@ -1,5 +1,6 @@
 // The sheet of one test rig.
 #![tactic(auto)]
+
 mod accepted;
 mod jobs;
 mod lists;

@@ -19,7 +19,7 @@ loop-k-preserved c =
     let windows = c.args.windows.now in
     let k = c.loop-k.k in
     let on = c.has-on.ensures in
-    let written : c.window-if.result ≡ after_place chain windows k = c.window-if.ensures ∙ ap₂ (λ (b : Bool) (j : ℕ). cond b (get_or windows j no_window) no_window) on c.loop-k.invariant.2 in
+    let written : c.window_if.result ≡ after_place chain windows k = c.window_if.ensures ∙ ap₂ (λ (b : Bool) (j : ℕ). cond b (get_or windows j no_window) no_window) on c.loop-k.invariant.2 in
     let more = rank_more chain k in
     let ranked : (b : Bool) → member (k + 1) chain ≡ b → length (rising_to chain (k + 1)) ≡ c.loop-k.j + cond b 1 0 = λ b e. more ∙ ap₂ (λ (x : ℕ) (v : Bool). x + cond v 1 0) (sym c.loop-k.invariant.2) e in (
       simp length-set c.loop-k.invariant.0,

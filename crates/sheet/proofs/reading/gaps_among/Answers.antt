@@ -7,9 +7,9 @@ use Rattle.sheet.proofs.reading.gaps_among.Goals as goal
 
 pub loop-i-preserved : goal.loop-i-preserved
 loop-i-preserved c = (
-  c.write-row.ensures.jobs ∙ c.loop-i.invariant.0,
+  c.write_row.ensures.jobs ∙ c.loop-i.invariant.0,
   λ a b ha hb.
-      ⊎_elim (λ e. rw e (c.write-row.ensures.row b hb)) (λ ne. c.write-row.ensures.others a b ne ∙ c.loop-i.invariant.1 a b (omega arith) hb) (cases_eq a c.loop-i.i),
+      ⊎_elim (λ e. rw e (c.write_row.ensures.row b hb)) (λ ne. c.write_row.ensures.others a b ne ∙ c.loop-i.invariant.1 a b (omega arith) hb) (cases_eq a c.loop-i.i),
 )
 
 pub returns : goal.returns

@@ -7,7 +7,7 @@ use Rattle.sheet.proofs.reading.laid_out.Goals as goal
 pub loop-k-preserved : goal.loop-k-preserved
 loop-k-preserved c = (
   simp length-set c.loop-k.invariant.0,
-  rw c.laid-at.ensures (fill_by_more (laid c.args.setups c.args.numbers.now) c.loop-k.rows c.loop-k.k 0 (omega arith) c.loop-k.invariant.1),
+  rw c.laid_at.ensures (fill_by_more (laid c.args.setups c.args.numbers.now) c.loop-k.rows c.loop-k.k 0 (omega arith) c.loop-k.invariant.1),
 )
 
 pub returns : goal.returns

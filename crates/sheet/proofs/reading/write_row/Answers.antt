@@ -10,15 +10,15 @@ use Rattle.sheet.proofs.reading.write_row.Goals as goal
 pub loop-j-preserved : goal.loop-j-preserved
 loop-j-preserved c =
     let gaps = c.loop-j.gaps in
-    let new = gap_of c.set-gap.new.self in
+    let new = gap_of c.set_gap.new.self in
     let numbers = c.args.changeovers.now in
     let wanted = gap_at numbers c.args.jobs.now (cards c.args.order.now) c.args.i in
-    let from_is = ap (λ (job : Job). job.setup) c.job-at-from.ensures in
-    let to_is = ap (λ (job : Job). job.setup) c.job-at-to.ensures in
+    let from_is = ap (λ (job : Job). job.setup) c.job_at-from.ensures in
+    let to_is = ap (λ (job : Job). job.setup) c.job_at-to.ensures in
     let is = ap (λ (x : ℕ). min x 12000) (c.between.ensures ∙ ap₂ (changeover 16 numbers) from_is to_is) in (
-      c.set-gap.ensures.jobs ∙ c.loop-j.invariant.0,
-      row_more gaps new c.args.i c.loop-j.j c.between.result wanted (omega (arith, c.loop-j.invariant.0)) (omega (arith, c.loop-j.invariant.0)) is c.set-gap.ensures.gaps c.loop-j.invariant.1,
-      λ a b ne. rows_kept gaps new c.args.i c.loop-j.j c.between.result c.set-gap.ensures.gaps a b ne ∙ c.loop-j.invariant.2 a b ne,
+      c.set_gap.ensures.jobs ∙ c.loop-j.invariant.0,
+      row_more gaps new c.args.i c.loop-j.j c.between.result wanted (omega (arith, c.loop-j.invariant.0)) (omega (arith, c.loop-j.invariant.0)) is c.set_gap.ensures.gaps c.loop-j.invariant.1,
+      λ a b ne. rows_kept gaps new c.args.i c.loop-j.j c.between.result c.set_gap.ensures.gaps a b ne ∙ c.loop-j.invariant.2 a b ne,
     )
 
 pub returns : goal.returns

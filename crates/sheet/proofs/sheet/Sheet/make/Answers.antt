@@ -10,7 +10,7 @@ pub returns : goal.returns
 returns c =
     let m = c.args.setups in
     let numbers = c.args.numbers.now in
-    let granted = sym c.check-matrix.ensures.answer ∙ c.in-ok-check-matrix.was in
+    let granted = sym c.check_matrix.ensures.answer ∙ c.in_ok-check_matrix.was in
     record {
       answer = sym granted;
       after = c.fresh.ensures ∙ accepted_leaves _ (reopened (fresh_book m numbers)) (shown c.args.self.now) granted;

@@ -9,25 +9,25 @@ use Rattle.sheet.specs.Shown.{book_of, shown}
 use Rattle.sheet.proofs.Effects.{good, refused_keeps, accepted_leaves, posted_as}
 use Rattle.sheet.proofs.sheet.Sheet.post.Goals as goal
 
-pub returns-in-err-may-post : goal.returns-in-err-may-post
-returns-in-err-may-post c =
-    let p = err_from_is_err_and c.from-residual.result c.from-residual.ensures.1 in
-    let asked = sym c.may-post.ensures ∙ c.in-err-may-post.was in
+pub returns-in_err-may_post : goal.returns-in_err-may_post
+returns-in_err-may_post c =
+    let p = err_from_is_err_and c.from_residual.result c.from_residual.ensures.1 in
+    let asked = sym c.may_post.ensures ∙ c.in_err-may_post.was in
     let exact = refused_keeps _ _ _ (shown c.args.self.now) asked in
     record { answer = p.1 ∙ ap Err p.2 ∙ sym asked; after = exact; kept = stays (shown c.args.self.now) _ (posts c.args.card c.args.job c.args.window) tt exact }
 
-pub invariant-of-self : goal.invariant-of-self
-invariant-of-self c =
+pub invariant_of-self : goal.invariant_of-self
+invariant_of-self c =
     let B = book_of c.args.self.now in
-    let granted = sym c.may-post.ensures ∙ c.in-ok-may-post.was in
+    let granted = sym c.may_post.ensures ∙ c.in_ok-may_post.was in
     let same = posted_as B c.args.card c.from-place.result c.args.job c.args.window _ c.from-place.ensures granted c.push.ensures.after in
-    (good B _ (λ s. subst Sound (sym same) (posted_sound B c.args.card c.args.job c.args.window s granted)) c.args.self.now.sound, tt)
+    record { sound = good B _ (λ s. subst Sound (sym same) (posted_sound B c.args.card c.args.job c.args.window s granted)) c.args.self.now.sound }
 
 pub returns : goal.returns
 returns c =
     let M = shown c.args.self.now in
     let B = book_of c.args.self.now in
-    let granted = sym c.may-post.ensures ∙ c.in-ok-may-post.was in
+    let granted = sym c.may_post.ensures ∙ c.in_ok-may_post.was in
     let same = posted_as B c.args.card c.from-place.result c.args.job c.args.window _ c.from-place.ensures granted c.push.ensures.after in
     let exact = c.accept.ensures ∙ ap reopened same ∙ accepted_leaves _ (reopened (with_job B c.args.card c.args.job c.args.window)) M granted in
     record { answer = sym granted; after = exact; kept = stays M _ (posts c.args.card c.args.job c.args.window) tt exact }

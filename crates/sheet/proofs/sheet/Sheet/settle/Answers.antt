@@ -16,9 +16,9 @@ returns g c =
     let o = c.settle-outcome.result in
     let is = outcome_is f B (face-shown c.face.result) c.face.ensures in
     let says = subst (Says o) is c.settle-outcome.ensures in
-    let status-is = c.status-of-status.ensures ∙ ap status_of says.cause in
-    let held-are = c.by-card-held.ensures ∙ held_by_card B (outcome f B).held o.held says.held in
-    let cause-is = c.named-cause.ensures ∙ ap₂ (λ (order : List ℕ) (x : Option Cause). named_cause (λ j. get_or order j 0) x) c.rising-order.ensures says.cause in
+    let status-is = c.status_of-status.ensures ∙ ap status_of says.cause in
+    let held-are = c.by_card-held.ensures ∙ held_by_card B (outcome f B).held o.held says.held in
+    let cause-is = c.named_cause.ensures ∙ ap₂ (λ (order : List ℕ) (x : Option Cause). named_cause (λ j. get_or order j 0) x) c.rising-order.ensures says.cause in
     let exact = c.accept.ensures ∙ same_sheet B held-are status-is says.rounds in
     record {
       answer = same_answer status-is says.rounds cause-is;
