@@ -1,5 +1,6 @@
 // Archive pages: a sheet as 1,292 bytes, and back.
 #![tactic(auto)]
+
 mod agreement;
 mod book;
 mod bytes;

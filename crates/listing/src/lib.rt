@@ -1,5 +1,6 @@
 // A sheet in words, as the planner and the page reader print it.
 #![tactic(auto)]
+
 use rules::{PageFault, Status};
 use sheet::Sheet;
 use std::alloc::{AllocError, Global};

@@ -11,23 +11,23 @@ use Rattle.archive.proofs.agreement.all_hold_same.Goals as goal
 pub loop-i-init : goal.loop-i-init
 loop-i-init c = ap (same_held c.args.page.now (shown c.args.sheet.now)) c.chain-chain.ensures
 
-pub holds-same-requires : goal.holds-same-requires
-holds-same-requires c =
+pub holds_same-requires : goal.holds_same-requires
+holds_same-requires c =
     let chain = c.chain-chain.result.now in
-    record { size = c.requires; card = ap is_card c.card-at.ensures.value ∙ card_of (cards chain) c.loop-i.i chain.good (omega arith) }
+    record { size = c.requires; card = ap is_card c.card_at.ensures.value ∙ card_of (cards chain) c.loop-i.i chain.good (omega arith) }
 
-pub returns-then-not-holds-same : goal.returns-then-not-holds-same
-returns-then-not-holds-same c =
+pub returns-then-not-holds_same : goal.returns-then-not-holds_same
+returns-then-not-holds_same c =
     let p = c.args.page.now in
     let M = shown c.args.sheet.now in
-    let bad = sym (ap (same_on p M) c.card-at.ensures.value) ∙ sym c.holds-same.ensures ∙ c.if-not-holds-same.true in
+    let bad = sym (ap (same_on p M) c.card_at.ensures.value) ∙ sym c.holds_same.ensures ∙ c.if-not-holds_same.true in
     sym (other_here p M (cards c.chain-chain.result.now) c.loop-i.i (omega arith) bad) ∙ c.loop-i.invariant
 
 pub loop-i-preserved : goal.loop-i-preserved
 loop-i-preserved c =
     let p = c.args.page.now in
     let M = shown c.args.sheet.now in
-    let fine = sym (ap (same_on p M) c.card-at.ensures.value) ∙ sym c.holds-same.ensures ∙ c.if-not-holds-same.false in
+    let fine = sym (ap (same_on p M) c.card_at.ensures.value) ∙ sym c.holds_same.ensures ∙ c.if-not-holds_same.false in
     sym (same_here p M (cards c.chain-chain.result.now) c.loop-i.i (omega arith) fine) ∙ c.loop-i.invariant
 
 pub returns : goal.returns

@@ -5,8 +5,8 @@ use Rattle.matrix.specs.Matrix.{Sized}
 use Rattle.archive.proofs.Numbers.{square_small}
 use Rattle.archive.proofs.book.read_matrix.Goals as goal
 
-pub slice-bounds-make-end : goal.slice-bounds-make-end
-slice-bounds-make-end c =
+pub slice_bounds-make-end : goal.slice_bounds-make-end
+slice_bounds-make-end c =
     let w = c.from-width.result in
     let sized : Sized w = (omega arith, omega arith) in
     let small : w * w ≤ 256 = square_small w sized in
@@ -17,5 +17,5 @@ returns c =
     let m = c.read16-setups.result in
     let w = c.from-width.result in
     let count : w * w - 0 ≡ m * m = omega (arith, ap (λ (k : ℕ). k * k) c.from-width.ensures) in
-    let numbers_are = ap (λ (k : ℕ). take k c.read-numbers-numbers.result) count ∙ c.read-numbers-numbers.ensures in
-    matrix_made c.args.page.now m _ (shown c.make.new.self) (shown c.blank-sheet.result) c.read16-setups.ensures numbers_are (sym c.make.ensures.answer ∙ c.in-ok-make.was) c.make.ensures.after
+    let numbers_are = ap (λ (k : ℕ). take k c.read_numbers-numbers.result) count ∙ c.read_numbers-numbers.ensures in
+    matrix_made c.args.page.now m _ (shown c.make.new.self) (shown c.blank-sheet.result) c.read16-setups.ensures numbers_are (sym c.make.ensures.answer ∙ c.in_ok-make.was) c.make.ensures.after

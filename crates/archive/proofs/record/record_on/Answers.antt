@@ -7,4 +7,4 @@ pub returns : goal.returns
 returns c =
     let at = 524 + 24 * (c.from.result - 1) in
     let at-is : 524 + 24 * (c.from.result - 1) ≡ record_start c.args.card = omega arith in
-    c.read-record.ensures ∙ record_part c.args.page.now c.args.card at (at + 24 - at) at-is (omega arith)
+    c.read_record.ensures ∙ record_part c.args.page.now c.args.card at (at + 24 - at) at-is (omega arith)

@@ -5,18 +5,18 @@ use Rattle.chain.specs.Listed.{cards}
 use Rattle.archive.proofs.Nexts.{next_here, next_on}
 use Rattle.archive.proofs.saving.next_of.Goals as goal
 
-pub returns-then-card-at-card : goal.returns-then-card-at-card
-returns-then-card-at-card c =
+pub returns-then-card_at-card : goal.returns-then-card_at-card
+returns-then-card_at-card c =
     let chain = cards c.args.chain.now in
     let within : c.loop-i.i < length (cards c.args.chain.now) = omega arith in
-    c.card-at-then-card-at-card.ensures.value
-    ∙ (sym (next_here chain c.args.card c.loop-i.i within (sym c.card-at.ensures.value ∙ c.if-card-at-card.true)) ∙ c.loop-i.invariant)
+    c.card_at-then-card_at-card.ensures.value
+    ∙ (sym (next_here chain c.args.card c.loop-i.i within (sym c.card_at.ensures.value ∙ c.if-card_at-card.true)) ∙ c.loop-i.invariant)
 
 pub loop-i-preserved : goal.loop-i-preserved
 loop-i-preserved c =
     let chain = cards c.args.chain.now in
     let within : c.loop-i.i < length (cards c.args.chain.now) = omega arith in
-    sym (next_on chain c.args.card c.loop-i.i within (λ e. c.if-card-at-card.false (c.card-at.ensures.value ∙ e))) ∙ c.loop-i.invariant
+    sym (next_on chain c.args.card c.loop-i.i within (λ e. c.if-card_at-card.false (c.card_at.ensures.value ∙ e))) ∙ c.loop-i.invariant
 
 pub returns : goal.returns
 returns c =

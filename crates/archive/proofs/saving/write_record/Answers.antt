@@ -9,7 +9,7 @@ pub returns : goal.returns
 returns c =
     let early = λ (window : Window). window.early in
     let late = λ (window : Window). window.late in
-    let next = front_number bytes16 (c.next-of.ensures ∙ ap (λ xs. next_in xs c.args.card) c.chain.ensures) (front_none c.args.part.now) c.write16.ensures in
+    let next = front_number bytes16 (c.next_of.ensures ∙ ap (λ xs. next_in xs c.args.card) c.chain.ensures) (front_none c.args.part.now) c.write16.ensures in
     let setup = front_number bytes16 (ap (λ (job : Job). job.setup) c.job-job.ensures) next c.write16-2.ensures in
     let duration = front_number bytes32 (ap (λ (job : Job). job.duration) c.job-job.ensures) setup c.write32.ensures in
     let opens = front_number bytes32 (ap early c.posted-posted.ensures) duration c.write32-2.ensures in

@@ -13,7 +13,7 @@ loop-k-preserved c =
     let piece = record_piece (shown c.args.sheet.now) in
     let at = 24 * c.from-at.result in
     joined_more piece 24 (λ k. refl) c.loop-k.k c.loop-k.invariant
-    (put_mid-paste at (at + 24 - at) c.loop-k.part _ (piece c.loop-k.k) 24 c.write-record.ensures (omega arith) refl
+    (put_mid-paste at (at + 24 - at) c.loop-k.part _ (piece c.loop-k.k) 24 c.write_record.ensures (omega arith) refl
     ∙ ap (λ n. paste c.loop-k.part (24 * n) (piece c.loop-k.k) 24) c.from-at.ensures)
 
 pub returns : goal.returns

@@ -10,13 +10,13 @@ loop-byte-init c = such_start _
 pub loop-byte-preserved : goal.loop-byte-preserved
 loop-byte-preserved c =
     let test : ℕ → Bool = λ byte. not (belongs c.args.setups (cards c.args.chain.now) byte) && not (eqb (get_or c.args.page.now byte 0) 0) in
-    such_more test c.loop-byte.byte c.loop-byte.invariant c.if-is-stray.ensures
+    such_more test c.loop-byte.byte c.loop-byte.invariant c.if-is_stray.ensures
 
-pub returns-then-is-stray : goal.returns-then-is-stray
+pub returns-then-is_stray : goal.returns-then-is_stray
 unfolding first_stray
-returns-then-is-stray c =
+returns-then-is_stray c =
     let test : ℕ → Bool = λ byte. not (belongs c.args.setups (cards c.args.chain.now) byte) && not (eqb (get_or c.args.page.now byte 0) 0) in
-    such_at test c.loop-byte.byte 1292 c.loop-byte.invariant c.if-is-stray.ensures (omega arith)
+    such_at test c.loop-byte.byte 1292 c.loop-byte.invariant c.if-is_stray.ensures (omega arith)
 
 pub returns : goal.returns
 unfolding first_stray

@@ -32,8 +32,8 @@ loop-link-preserved c =
     let joins = sym c.push.ensures.answer ∙ c.if-not-push.false in
     let next = more c.loop-link.chain c.push.new.self link joins c.push.ensures.after in
     let fuel : 33 - length (cards c.push.new.self) ≡ 33 - length met - 1 = omega (arith, longer c.loop-link.chain c.push.new.self link next) in
-    let link-is = ap (λ (r : Record). r.next) c.record-on-link.ensures in
-    ap₂ (λ (n : ℕ) (ks : List ℕ). links_from p n ks link c.record-on-link.result.next) fuel next
+    let link-is = ap (λ (r : Record). r.next) c.record_on-link.ensures in
+    ap₂ (λ (n : ℕ) (ks : List ℕ). links_from p n ks link c.record_on-link.result.next) fuel next
     ∙ ap (links_from p (33 - length met - 1) (met ++ link ∷ []) link) link-is
     ∙ sym (goes p met c.loop-link.card link (33 - length met) (omega arith) c.loop-link-test.true joins)
     ∙ c.loop-link.invariant
