@@ -1,11 +1,13 @@
 #!/usr/bin/env python3
 """Respells this repository's own definitions and lemmas: words in snake case, types in camel case.
 
-usage: python3 tools/snake_names.py [--list]      at the top of the repository
+usage: python3 tools/snake_names.py [--list|--locals]      at the top of the repository
 
 Run once, after the kit's port.py. It renames what the files of specs/ and proofs/ declare (definitions, lemmas, record
 fields, constructors) and what src/ declares as ghost members and names of clauses, wherever they are named: in .antt
 files, and in .rt files outside strings and comments. Names that Rattle makes (goals, steps) and names of src/ stay.
+With --locals, run after that, it respells what lemma files and specs/ bind or declare inside modules, and names given by
+`as`; names of the library stay.
 """
 import os
 import re
@@ -124,11 +126,39 @@ def turn_text(text, table, fields):
     return NAME.sub(one, text)
 
 
+LIBRARY = re.compile(r"use (?:Rattle\.std|mathlib|lib|borrow|native|denote)[\w.+]*\.\{([^}]*)\}")
+ALIAS = re.compile(r"\bas ([A-Za-z_][\w']*(?:-[\w']+)+)")
+LOCAL = re.compile(r"(?<![\w'.\-])[A-Za-z_][\w']*(?:-[\w'+]+)+(?![\w'\-])")
+
+
+def locals_of(root):
+    """Respells the names that lemma files and specs/ use and the library does not have."""
+    library, aliases = set(), set()
+    for path in list(files(root, ".antt")) + list(files(root, ".rt")):
+        for names in LIBRARY.findall(read(path)):
+            library |= {x.strip().split(" as ")[0] for x in names.split(",")}
+        aliases |= set(ALIAS.findall(read(path)))
+    for path in list(files(root, ".antt")) + list(files(root, ".rt")):
+        whole = path.endswith(".antt") and not path.endswith(("Answers.antt", "Invariants.antt", "Proof.antt"))
+
+        def one(m):
+            mine = m.group(0) in aliases or (whole and m.group(0) not in library)
+            return m.group(0).replace("-", "_") if mine else m.group(0)
+
+        old = read(path)
+        new = "\n".join(line if line.lstrip().startswith(("--", "//")) else LOCAL.sub(one, line) for line in old.split("\n"))
+        if new != old:
+            open(path, "w", encoding="utf-8").write(new)
+
+
 RT_PART = re.compile(r'("(?:[^"\\]|\\.)*"|//[^\n]*)')
 
 
 def main():
     root = os.getcwd()
+    if "--locals" in sys.argv:
+        locals_of(root)
+        return
     found, fields = declared(root)
     table, both = {}, []
     for name, places in sorted(found.items()):

@@ -19,10 +19,10 @@ module _ (p : List ℕ) (at : ℕ) where
 
 -- it begins with the card's record
 pub record_part : (p : List ℕ) (card at n : ℕ) → at ≡ record_start card → n ≡ 24 → record_from (take n (drop at p)) ≡ record_in p card
-record_part p card at n at-is n_is =
+record_part p card at n at_is n_is =
     let s = record_start card in
     let first : le16 (take 24 (drop s p)) 0 ≡ le16 p s = omega (arith, part16 p s 0 (omega arith), ap (λ i. get_or p i 0) (let e : s + 0 ≡ s = omega arith in e), ap (λ i. get_or p i 0) (let e : s + 0 + 1 ≡ s + 1 = omega arith in e)) in
-    ap₂ (λ (i k : ℕ). record_from (take k (drop i p))) at-is n_is
+    ap₂ (λ (i k : ℕ). record_from (take k (drop i p))) at_is n_is
     ∙ (λ r. record {
       next = first r;
       job = record { setup = part16 p s 2 (omega arith) r; duration = part32 p s 4 (omega arith) r };

@@ -26,12 +26,12 @@ fresh_page p m = refl
 
 -- a matrix that make accepts is the first part of the page's sheet
 pub matrix_made : (p : List ℕ) (m : ℕ) (numbers : List ℕ) (M N : Model) → m ≡ le16 p 2 → numbers ≡ page_numbers p m → matrix_answer m numbers ≡ Ok tt → M ≡ make_leaves m numbers N → ◌≡◌ {A = Result Model PageFault} (Ok M) (matrix_part p)
-matrix_made p m numbers M N m-is numbers_are accepted made =
+matrix_made p m numbers M N m_is numbers_are accepted made =
     let accepted' : matrix_answer m (page_numbers p m) ≡ Ok tt = sym (ap (matrix_answer m) numbers_are) ∙ accepted in
     let left : make_leaves m numbers N ≡ reopened (fresh_book m numbers) = rw accepted in
     let sheet : M ≡ reopened (page_book p m []) = made ∙ left ∙ ap (λ (xs : List ℕ). reopened (fresh_book m xs)) numbers_are ∙ ap reopened (fresh_page p m) in
     let whole : ◌≡◌ {A = Result Model PageFault} (Ok M) (then of_matrix (matrix_answer m (page_numbers p m)) (λ _. Ok (reopened (page_book p m [])))) = rw accepted' (ap (λ (x : Model). let r : Result Model PageFault = Ok x in r) sheet) in
-    whole ∙ ap (λ (k : ℕ). then of_matrix (matrix_answer k (page_numbers p k)) (λ _. Ok (reopened (page_book p k [])))) m-is
+    whole ∙ ap (λ (k : ℕ). then of_matrix (matrix_answer k (page_numbers p k)) (λ _. Ok (reopened (page_book p k [])))) m_is
 
 -- the card at a place of a chain is in it, and not before
 member_at : (ks : List ℕ) (i : ℕ) → i < length ks → member (get_or ks i 0) ks ≡ true
@@ -101,21 +101,21 @@ module _ (p : List ℕ) (m : ℕ) (ks : List ℕ) (i : ℕ) (good : chained ks �
       ∙ ap (page_book p m) longer
 
   pub posted_more : (M N : Model) (job : Job) (w : Window) (k : ℕ) → k ≡ card → job ≡ job_in p k → w ≡ posted_in p k → M ≡ reopened (page_book p m (take i ks)) → N ≡ step M (posts k job w) → N ≡ reopened (page_book p m (take (i + 1) ks))
-  posted_more M N job w k k-is job_is w-is before after =
+  posted_more M N job w k k_is job_is w_is before after =
       after
-      ∙ (λ r. step (before r) (posts (k-is r) ((job_is ∙ ap (job_in p) k-is) r) ((w-is ∙ ap (posted_in p) k-is) r)))
+      ∙ (λ r. step (before r) (posts (k_is r) ((job_is ∙ ap (job_in p) k_is) r) ((w_is ∙ ap (posted_in p) k_is) r)))
       ∙ rw granted (ap reopened grown)
 
 -- the sheet that the matrix of a page gives
 pub matrix_sheet : (p : List ℕ) (M : Model) (m : ℕ) → m ≡ M.book.setups → ◌≡◌ {A = Result Model PageFault} (Ok M) (matrix_part p) → M ≡ reopened (page_book p m [])
 unfolding page_book
-matrix_sheet p M m m-is found =
+matrix_sheet p M m m_is found =
     let k = le16 p 2 in
     elim (matrix_answer k (page_numbers p k)) as (λ r. ◌≡◌ {A = Result Model PageFault} (Ok M) (then of_matrix r (λ _. Ok (reopened (page_book p k [])))) → M ≡ reopened (page_book p m [])) [
       | Ok x ↦ λ e.
           let is : M ≡ reopened (page_book p k []) = cc in
-          let setups-are : m ≡ k = m-is ∙ ap (λ (N : Model). N.book.setups) is in
-          is ∙ ap (λ (n : ℕ). reopened (page_book p n [])) (sym setups-are)
+          let setups_are : m ≡ k = m_is ∙ ap (λ (N : Model). N.book.setups) is in
+          is ∙ ap (λ (n : ℕ). reopened (page_book p n [])) (sym setups_are)
       | Err y ↦ λ e. absurd (let z : ◌≡◌ {A = ℕ} 0 1 = cc in omega arith)
     ] found
 

@@ -10,7 +10,7 @@ gap_small g i j = cond_both (among g.jobs i j) _ 0 (λ y. y ≤ 12000) (λ _. g.
 
 -- the number at k is written at its row and column: so all up to it are
 pub rows_more : (m n k x : ℕ) (numbers : List ℕ) (before after : ℕ → ℕ → ℕ) → n ≡ m → x ≡ get_or numbers k 0 → ((a b : ℕ) → after a b ≡ with_gap n before (k / m) (k % m) x a b) → ((i j : ℕ) → i < m → j < m → m * i + j < k → before i j ≡ min (get_or numbers (m * i + j) 0) 12000) → (i j : ℕ) → i < m → j < m → m * i + j < k + 1 → after i j ≡ min (get_or numbers (m * i + j) 0) 12000
-rows_more m n k x numbers before after same-jobs is written old i j hi hj h =
+rows_more m n k x numbers before after same_jobs is written old i j hi hj h =
     written i j
     ∙ cond_both (among n (k / m) (k % m) && (eqb i (k / m) && eqb j (k % m))) (min x 12000) (before i j) (λ (y : ℕ). y ≡ min (get_or numbers (m * i + j) 0) 12000)
     (λ t.

@@ -6,7 +6,7 @@ use Rattle.theta.specs.Refusals.{leaf_answer}
 use Rattle.theta.specs.Tree.{grown}
 use Rattle.theta.specs.Runs.{Call, start, puts, greys, drops, then, comes, seat, Begins, Follows}
 use Rattle.theta_nodes.specs.declared.grey.Grey.{Grey}
-use Rattle.theta_nodes.specs.Grey.{rank as late-rank, empty_grey, white_leaf_in, grey_leaf, turned_grey, grey_placed, grey_join}
+use Rattle.theta_nodes.specs.Grey.{rank as late_rank, empty_grey, white_leaf_in, grey_leaf, turned_grey, grey_placed, grey_join}
 use Rattle.theta_nodes.specs.White.{empty_white, white_join}
 use Rattle.theta_nodes.specs.Leaves.{nothing_here, white_here, grey_here, InLimits, is_grey, whitened, with_white, in_white, in_grey, white_root, grey_tree}
 use Rattle.theta_lambda.specs.Tells.{Tells}
@@ -79,19 +79,19 @@ module _ (F : Face) (b : ℕ → ℕ) where
 
   module _ (few : F.n ≤ 32) where
     -- a call that changes one job's leaf
-    both-step : (S G S' G' : ℕ → Bool) (T T' : GreyTree) (c : Call Grey) (j : ℕ) → j < F.n → seat c ≡ place F j → comes empty_grey grey_placed turned_grey c (node S G (place F j) (Some j)) ≡ node S' G' (place F j) (Some j) → SameBut F.n j S S' → SameBut F.n j G G' → Follows empty_grey grey_placed turned_grey (grey_join b) T.nodes T'.nodes c → HoldsBoth F b S G T → HoldsBoth F b S' G' T'
+    both_step : (S G S' G' : ℕ → Bool) (T T' : GreyTree) (c : Call Grey) (j : ℕ) → j < F.n → seat c ≡ place F j → comes empty_grey grey_placed turned_grey c (node S G (place F j) (Some j)) ≡ node S' G' (place F j) (Some j) → SameBut F.n j S S' → SameBut F.n j G G' → Follows empty_grey grey_placed turned_grey (grey_join b) T.nodes T'.nodes c → HoldsBoth F b S G T → HoldsBoth F b S' G' T'
     unfolding mixed_leaves node
-    both-step S G S' G' T T' c j hj at becomes e d follows h =
+    both_step S G S' G' T T' c j hj at becomes e d follows h =
         let s = seat_step F few (node S G) (node S' G') empty_grey grey_placed turned_grey (grey_join b) T.nodes T'.nodes c j hj at becomes (λ _. refl) (λ p k hk ne. node_same S G S' G' p k (e k hk ne) (d k hk ne)) follows h.run h.stands h.leaves_are in
         record { run = then h.run c; stands = s.0; leaves_are = s.1 }
 
     pub both_enter : (S G : ℕ → Bool) (T T' : GreyTree) (j p : ℕ) (x : Grey) → j < F.n → p ≡ place F j → x ≡ white_leaf_in (F.duration j) (earliest_finish F j) → Follows empty_grey grey_placed turned_grey (grey_join b) T.nodes T'.nodes (puts p x) → HoldsBoth F b S G T → HoldsBoth F b (with_job j S) (but j G) T'
     both_enter S G T T' j p x hj at is follows h =
-        both-step S G (with_job j S) (but j G) T T' (puts p x) j hj at (ap (grey_placed p) is ∙ sym (node_white (with_job j S) (but j G) (place F j) j (but_here j G) (with_here j S))) (with_others F.n j S) (but_others F.n j G) follows h
+        both_step S G (with_job j S) (but j G) T T' (puts p x) j hj at (ap (grey_placed p) is ∙ sym (node_white (with_job j S) (but j G) (place F j) j (but_here j G) (with_here j S))) (with_others F.n j S) (but_others F.n j G) follows h
 
     pub both_remove : (S G : ℕ → Bool) (T T' : GreyTree) (j p : ℕ) → j < F.n → p ≡ place F j → Follows empty_grey grey_placed turned_grey (grey_join b) T.nodes T'.nodes (drops p) → HoldsBoth F b S G T → HoldsBoth F b (but j S) (but j G) T'
     both_remove S G T T' j p hj at follows h =
-        both-step S G (but j S) (but j G) T T' (drops p) j hj at (sym (node_out (but j S) (but j G) (place F j) j (but_here j G) (but_here j S))) (but_others F.n j S) (but_others F.n j G) follows h
+        both_step S G (but j S) (but j G) T T' (drops p) j hj at (sym (node_out (but j S) (but j G) (place F j) j (but_here j G) (but_here j S))) (but_others F.n j S) (but_others F.n j G) follows h
 
     -- a white leaf or a grey one, turned grey
     greyed : (S G : ℕ → Bool) (p j : ℕ) → S j ≡ true → grey_placed p (turned_grey (node S G p (Some j))) ≡ grey_placed p (grey_leaf (F.duration j) (earliest_finish F j))
@@ -100,7 +100,7 @@ module _ (F : Face) (b : ℕ → ℕ) where
 
     pub both_grey : (S G : ℕ → Bool) (T T' : GreyTree) (j p : ℕ) → j < F.n → p ≡ place F j → S j ≡ true → Follows empty_grey grey_placed turned_grey (grey_join b) T.nodes T'.nodes (greys p) → HoldsBoth F b S G T → HoldsBoth F b (but j S) (with_job j G) T'
     both_grey S G T T' j p hj at t follows h =
-        both-step S G (but j S) (with_job j G) T T' (greys p) j hj at
+        both_step S G (but j S) (with_job j G) T T' (greys p) j hj at
         (ap (λ q. grey_placed q (turned_grey (node S G (place F j) (Some j)))) at ∙ greyed S G (place F j) j t ∙ sym (node_grey (but j S) (with_job j G) (place F j) j (with_here j G)))
         (but_others F.n j S) (with_others F.n j G) follows h
 
@@ -118,15 +118,15 @@ module _ (F : Face) (b : ℕ → ℕ) where
         (λ g. ap in_white (cond-false (G k) _ _ g))
         (cases_Bool (G k))
 
-    mixed-white : (white_root b (mixed_leaves F S G)).finish ≡ E F b S
+    mixed_white : (white_root b (mixed_leaves F S G)).finish ≡ E F b S
     unfolding E white_root mixed_leaves leaves
-    mixed-white =
+    mixed_white =
         ap (λ xs. (get_or (grown (white_join b) xs) 0 empty_white).finish)
         (row_same (λ p. in_white (mixed_leaves F S G p)) (λ p. in_white (leaves F S p)) (seat_same F (λ p o. in_white (leaf_of F S o)) (λ p o. in_white (mixed_leaf F S G o)) (λ _. refl) (λ p k hk _. white_part k hk)))
 
     -- the leaves with one grey job made white
-    whitened-leaf : (i p k : ℕ) → i < F.n → G i ≡ true → k < F.n → place F k ≡ p → in_white (cond (eqb p (place F i)) (whitened (mixed_leaf F S G (Some k))) (mixed_leaf F S G (Some k))) ≡ in_white (leaf_of F (with_job i S) (Some k))
-    whitened-leaf i p k hi g hk at =
+    whitened_leaf : (i p k : ℕ) → i < F.n → G i ≡ true → k < F.n → place F k ≡ p → in_white (cond (eqb p (place F i)) (whitened (mixed_leaf F S G (Some k))) (mixed_leaf F S G (Some k))) ≡ in_white (leaf_of F (with_job i S) (Some k))
+    whitened_leaf i p k hi g hk at =
         ⊎_elim
         (λ e.
         let here : eqb p (place F i) ≡ true = eq-eqb p (place F i) (sym at ∙ ap (place F) e) in
@@ -143,14 +143,14 @@ module _ (F : Face) (b : ℕ → ℕ) where
         ∙ ap (λ t. in_white (cond t (white_here (F.duration k) (earliest_finish F k)) nothing_here)) (sym (with_others F.n i S k hk d)))
         (cases_eq k i)
 
-    mixed-with : (i : ℕ) → i < F.n → G i ≡ true → (white_root b (with_white (place F i) (mixed_leaves F S G))).finish ≡ E F b (with_job i S)
+    mixed_with : (i : ℕ) → i < F.n → G i ≡ true → (white_root b (with_white (place F i) (mixed_leaves F S G))).finish ≡ E F b (with_job i S)
     unfolding E white_root mixed_leaves leaves
-    mixed-with i hi g =
+    mixed_with i hi g =
         ap (λ xs. (get_or (grown (white_join b) xs) 0 empty_white).finish)
         (row_same (λ p. in_white (with_white (place F i) (mixed_leaves F S G) p)) (λ p. in_white (leaves F (with_job i S) p))
         (seat_same F (λ p o. in_white (leaf_of F (with_job i S) o)) (λ p o. in_white (cond (eqb p (place F i)) (whitened (mixed_leaf F S G o)) (mixed_leaf F S G o)))
         (λ p. cond_both (eqb p (place F i)) nothing_here nothing_here (λ x. in_white x ≡ empty_white) (λ _. refl) (λ _. refl))
-        (λ p k hk at. whitened-leaf i p k hi g hk at)))
+        (λ p k hk at. whitened_leaf i p k hi g hk at)))
 
   -- what the root tells
   module _ (ok : Fine F) (S G : ℕ → Bool) where
@@ -166,14 +166,14 @@ module _ (F : Face) (b : ℕ → ℕ) where
             cond_both (G k) _ _ InLimits (λ _. in_limits) (λ _. cond_both (S k) _ _ InLimits (λ _. in_limits) (λ _. tt))
 
     -- a grey job's leaf is grey
-    grey-at : (i : ℕ) → i < F.n → G i ≡ true → is_grey (mixed_leaves F S G (place F i)) ≡ true
+    grey_at : (i : ℕ) → i < F.n → G i ≡ true → is_grey (mixed_leaves F S G (place F i)) ≡ true
     unfolding mixed_leaves
-    grey-at i hi g = ap (λ o. is_grey (mixed_leaf F S G o)) (place_finds F (place F i) i hi refl) ∙ ap is_grey (cond-true (G i) _ _ g)
+    grey_at i hi g = ap (λ o. is_grey (mixed_leaf F S G o)) (place_finds F (place F i) i hi refl) ∙ ap is_grey (cond-true (G i) _ _ g)
 
     -- and only a grey job's leaf is
-    grey-from : (p : ℕ) → is_grey (mixed_leaves F S G p) ≡ true → (k : ℕ) × (k < F.n) × (place F k ≡ p) × (G k ≡ true)
+    grey_from : (p : ℕ) → is_grey (mixed_leaves F S G p) ≡ true → (k : ℕ) × (k < F.n) × (place F k ≡ p) × (G k ≡ true)
     unfolding mixed_leaves
-    grey-from p t = each (at_place F p) refl
+    grey_from p t = each (at_place F p) refl
       where
         each : (o : Option ℕ) → at_place F p ≡ o → (k : ℕ) × (k < F.n) × (place F k ≡ p) × (G k ≡ true)
         each None e = let f : is_grey (mixed_leaf F S G (at_place F p)) ≡ false = ap (λ o. is_grey (mixed_leaf F S G o)) e in absurd (both_ways _ f t)
@@ -188,24 +188,24 @@ module _ (F : Face) (b : ℕ → ℕ) where
 
     module _ (apart : Apart F S G) (x : Grey) (tells : Tells b (mixed_leaves F S G) x) where
       pub tells_white : x.white.finish ≡ E F b S
-      tells_white = ap (λ w. w.finish) tells.white_part ∙ mixed-white S G apart
+      tells_white = ap (λ w. w.finish) tells.white_part ∙ mixed_white S G apart
 
-      tells_all : (i : ℕ) → i < F.n → G i ≡ true → late-rank (E F b (with_job i S)) ≤ late-rank x.grey.finish
+      tells_all : (i : ℕ) → i < F.n → G i ≡ true → late_rank (E F b (with_job i S)) ≤ late_rank x.grey.finish
       tells_all i hi g =
-          subst (λ e. late-rank e ≤ late-rank x.grey.finish) (mixed-with S G apart i hi g)
-          (tells.finish_greatest.not_below_a_grey (place F i) (omega (arith, place_below F i hi, ok.few)) (grey-at i hi g))
+          subst (λ e. late_rank e ≤ late_rank x.grey.finish) (mixed_with S G apart i hi g)
+          (tells.finish_greatest.not_below_a_grey (place F i) (omega (arith, place_below F i hi, ok.few)) (grey_at i hi g))
 
       pub tells_none : x.responsible ≡ None → TellsJobs F b S G x.grey.finish None
-      tells_none e = record { all = tells_all; blames = tells.finish_greatest.base_where_none e ∙ mixed-white S G apart }
+      tells_none e = record { all = tells_all; blames = tells.finish_greatest.base_where_none e ∙ mixed_white S G apart }
 
       pub tells_some : (p r : ℕ) → x.responsible ≡ Some p → (p < F.n → HasRank F.n F.early p r) → TellsJobs F b S G x.grey.finish (Some r)
       tells_some p r e has =
           let lowest = tells.finish_greatest.lowest_that_gives_it p e in
-          let w = grey-from p lowest.at_a_grey_leaf in
+          let w = grey_from p lowest.at_a_grey_leaf in
           let h = has (omega (arith, place_below F w.0 w.1, w.2)) in
           let same : r ≡ w.0 = ⊎_elim (λ q. q) (λ d. absurd (rank_apart F.early F.n r w.0 h.0 w.1 d (h.1 ∙ sym w.2 ∙ place_rank F w.0))) (cases_eq r w.0) in
           let gives : (white_root b (with_white (place F w.0) (mixed_leaves F S G))).finish ≡ x.grey.finish = ap (λ q. (white_root b (with_white q (mixed_leaves F S G))).finish) w.2 ∙ lowest.gives_it in
           record {
             all = tells_all;
-            blames = (h.0, ap G same ∙ w.3, ap (λ k. E F b (with_job k S)) same ∙ sym (mixed-with S G apart w.0 w.1 w.3) ∙ gives);
+            blames = (h.0, ap G same ∙ w.3, ap (λ k. E F b (with_job k S)) same ∙ sym (mixed_with S G apart w.0 w.1 w.3) ∙ gives);
           }

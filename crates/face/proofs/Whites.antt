@@ -100,23 +100,23 @@ module _ (F : Face) (b : ℕ → ℕ) where
 
   module _ (few : F.n ≤ 32) where
     -- a call that changes one job's leaf
-    holds-step : (S S' : ℕ → Bool) (T T' : WhiteTree) (c : Call White) (j : ℕ) → j < F.n → seat c ≡ place F j → comes empty_white (λ _ x. x) (λ x. x) c (node S (place F j) (Some j)) ≡ node S' (place F j) (Some j) → SameBut F.n j S S' → Follows empty_white (λ _ x. x) (λ x. x) (white_join b) T.nodes T'.nodes c → Holds F b S T → Holds F b S' T'
+    holds_step : (S S' : ℕ → Bool) (T T' : WhiteTree) (c : Call White) (j : ℕ) → j < F.n → seat c ≡ place F j → comes empty_white (λ _ x. x) (λ x. x) c (node S (place F j) (Some j)) ≡ node S' (place F j) (Some j) → SameBut F.n j S S' → Follows empty_white (λ _ x. x) (λ x. x) (white_join b) T.nodes T'.nodes c → Holds F b S T → Holds F b S' T'
     unfolding leaves node
-    holds-step S S' T T' c j hj at becomes e follows h =
+    holds_step S S' T T' c j hj at becomes e follows h =
         let s = seat_step F few (node S) (node S') empty_white (λ _ x. x) (λ x. x) (white_join b) T.nodes T'.nodes c j hj at becomes (λ _. refl) (λ p k hk d. node_same S S' p k (e k hk d)) follows h.run h.stands h.leaves_are in
         record { run = then h.run c; stands = s.0; leaves_are = s.1 }
 
     pub holds_enter : (S : ℕ → Bool) (T T' : WhiteTree) (j p : ℕ) (x : White) → j < F.n → p ≡ place F j → x ≡ white_leaf (F.duration j) (earliest_finish F j) → Follows empty_white (λ _ x. x) (λ x. x) (white_join b) T.nodes T'.nodes (puts p x) → Holds F b S T → Holds F b (with_job j S) T'
     holds_enter S T T' j p x hj at is follows h =
-        holds-step S (with_job j S) T T' (puts p x) j hj at (is ∙ sym (node_in (with_job j S) (place F j) j (with_here j S))) (with_others F.n j S) follows h
+        holds_step S (with_job j S) T T' (puts p x) j hj at (is ∙ sym (node_in (with_job j S) (place F j) j (with_here j S))) (with_others F.n j S) follows h
 
     pub holds_lifted : (S : ℕ → Bool) (T T' : WhiteTree) (i p : ℕ) → i < F.n → p ≡ place F i → Follows empty_white (λ _ x. x) (λ x. x) (white_join b) T.nodes T'.nodes (lifts p) → Holds F b S T → Holds F b (but i S) T'
     holds_lifted S T T' i p hi at follows h =
-        holds-step S (but i S) T T' (lifts p) i hi at (sym (node_out (but i S) (place F i) i (but_here i S))) (but_others F.n i S) follows h
+        holds_step S (but i S) T T' (lifts p) i hi at (sym (node_out (but i S) (place F i) i (but_here i S))) (but_others F.n i S) follows h
 
     -- the leaf of a job
-    leaf-there : (S : ℕ → Bool) (T : WhiteTree) (i p : ℕ) → i < F.n → p ≡ place F i → Holds F b S T → get_or T.nodes (31 + p) empty_white ≡ node S (place F i) (Some i)
-    leaf-there S T i p hi at h =
+    leaf_there : (S : ℕ → Bool) (T : WhiteTree) (i p : ℕ) → i < F.n → p ≡ place F i → Holds F b S T → get_or T.nodes (31 + p) empty_white ≡ node S (place F i) (Some i)
+    leaf_there S T i p hi at h =
         ap (λ q. get_or T.nodes (31 + q) empty_white) at
         ∙ ap (λ xs. get_or xs (31 + place F i) empty_white) (h.stands.afresh ∙ ap (grown (white_join b)) h.leaves_are)
         ∙ grown_leaf (white_join b) (λ q. in_white (leaves F S q)) (place F i) empty_white (omega (arith, place_below F i hi))
@@ -125,7 +125,7 @@ module _ (F : Face) (b : ℕ → ℕ) where
 
     pub holds_back : (S : ℕ → Bool) (T T₁ T₂ : WhiteTree) (i p p' : ℕ) (x : White) → i < F.n → p ≡ place F i → p' ≡ p → x ≡ get_or T.nodes (31 + p) empty_white → Follows empty_white (λ _ x. x) (λ x. x) (white_join b) T₁.nodes T₂.nodes (sets_back p' x) → Holds F b S T → Holds F b (but i S) T₁ → Holds F b S T₂
     holds_back S T T₁ T₂ i p p' x hi at same is follows h h₁ =
-        holds-step (but i S) S T₁ T₂ (sets_back p' x) i hi (same ∙ at) (is ∙ leaf-there S T i p hi at h) (λ k hk d. sym (but_others F.n i S k hk d)) follows h₁
+        holds_step (but i S) S T₁ T₂ (sets_back p' x) i hi (same ∙ at) (is ∙ leaf_there S T i p hi at h) (λ k hk d. sym (but_others F.n i S k hk d)) follows h₁
 
     -- what is no job makes no difference
     pub holds_outside : (S : ℕ → Bool) (T : WhiteTree) (j : ℕ) → F.n ≤ j → Holds F b S T → Holds F b (with_job j S) T
@@ -151,9 +151,9 @@ module _ (F : Face) (b : ℕ → ℕ) where
       one (Some x) (Some y) t = omega arith
 
   module _ (ok : Fine F) (S : ℕ → Bool) where
-    leaf-timed : (p : ℕ) → Timed (in_white (leaves F S p)).finish
+    leaf_timed : (p : ℕ) → Timed (in_white (leaves F S p)).finish
     unfolding leaves
-    leaf-timed p = each (at_place F p) refl
+    leaf_timed p = each (at_place F p) refl
       where
         each : (o : Option ℕ) → at_place F p ≡ o → Timed (in_white (leaf_of F S o)).finish
         each None e = tt
@@ -161,11 +161,11 @@ module _ (F : Face) (b : ℕ → ℕ) where
             let w = place_found F p k e in
             cond_both (S k) (white_here (F.duration k) (earliest_finish F k)) nothing_here (λ x. Timed (in_white x).finish) (λ _. omega (arith, ok.wide k w.0, ok.closes k w.0)) (λ _. tt)
 
-    grow-timed : (k p : ℕ) → Timed (grow (white_join b) (λ q. in_white (leaves F S q)) k p).finish
+    grow_timed : (k p : ℕ) → Timed (grow (white_join b) (λ q. in_white (leaves F S q)) k p).finish
     unfolding grow
-    grow-timed zero p = leaf-timed p
-    grow-timed (suc k) p = joined_timed (grow (white_join b) (λ q. in_white (leaves F S q)) k p) (grow (white_join b) (λ q. in_white (leaves F S q)) k (p + 2 ^ k)) (grow-timed k (p + 2 ^ k))
+    grow_timed zero p = leaf_timed p
+    grow_timed (suc k) p = joined_timed (grow (white_join b) (λ q. in_white (leaves F S q)) k p) (grow (white_join b) (λ q. in_white (leaves F S q)) k (p + 2 ^ k)) (grow_timed k (p + 2 ^ k))
 
     pub E_timed : Timed (E F b S)
     unfolding E white_root
-    E_timed = subst (λ x. Timed x.finish) (sym (root_is empty_white (white_join b) (λ q. in_white (leaves F S q)))) (grow-timed 5 0)
+    E_timed = subst (λ x. Timed x.finish) (sym (root_is empty_white (white_join b) (λ q. in_white (leaves F S q)))) (grow_timed 5 0)

@@ -1,7 +1,7 @@
 -- Edge finding, one job more at a time. Assumes nothing.
 use Rattle.std.proofs.Common.{◌≡◌, ℕ, zero, suc, ◌+◌, ◌<◌, ◌≤◌, Bool, true, false, cond, not, eqb, ltb, ◌≢◌, List, length, set, Some, None, Option, sym, refl, ap, ◌∙◌, subst, inl, inr, ⊎_elim, not-suc-le-zero, arith, get_or-set_other, get_or-set_same}
 use Rattle.std.proofs.lemmas.Bool.{cases_eq, cases_lt, both_ways, and_right, ltb-false, le-ltb, lt-ltb, cond-true, cond-false}
-use Rattle.theta_nodes.specs.Grey.{rank as late-rank}
+use Rattle.theta_nodes.specs.Grey.{rank as late_rank}
 use Rattle.rules.specs.Faces.{Face}
 use Rattle.rules.specs.Places.{count, E}
 use Rattle.rules.specs.Rules.{above, or_zero, least_over, sum, after, up_to, too_much, with_job}
@@ -11,7 +11,7 @@ use Rattle.face.proofs.Whites.{Same, but_others, but_here, with_others, with_her
 use Rattle.filtering.specs.Edges.{crowded, flagged, Blamed, Moved}
 
 -- an earlier time is not above what a later one is not above
-above_rank : (x y : Option ℕ) (limit : ℕ) → late-rank x ≤ late-rank y → above y limit ≡ false → above x limit ≡ false
+above_rank : (x y : Option ℕ) (limit : ℕ) → late_rank x ≤ late_rank y → above y limit ≡ false → above x limit ≡ false
 above_rank None y limit h f = refl
 above_rank (Some s) None limit h f = absurd (omega arith)
 above_rank (Some s) (Some t) limit h f = le-ltb limit s (omega (arith, ltb-false limit t f))

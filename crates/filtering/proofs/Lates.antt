@@ -109,8 +109,8 @@ up_to_firsts F j t at k hk =
 -- what the tree of the first jobs tells of the last of them
 pub too_much_is : (F : Face) (b : ℕ → ℕ) (j t : ℕ) (e : Option ℕ) (late : ℕ) → HasRank F.n F.late t j → e ≡ E F b (firsts F.n F.late (t + 1)) → late ≡ F.late j → above e late ≡ too_much F b j
 unfolding too_much
-too_much_is F b j t e late at is at-late =
-    ap (above e) at-late ∙ ap (λ x. above x (F.late j)) (is ∙ sym (E_same F b (firsts F.n F.late (t + 1)) (up_to F j) (up_to_firsts F j t at)))
+too_much_is F b j t e late at is at_late =
+    ap (above e) at_late ∙ ap (λ x. above x (F.late j)) (is ∙ sym (E_same F b (firsts F.n F.late (t + 1)) (up_to F j) (up_to_firsts F j t at)))
 
 -- one job more has been looked at
 pub seen_more : (n : ℕ) (key : ℕ → ℕ) (P : ℕ → Type 0) (j t : ℕ) → HasRank n key t j → ((k : ℕ) → k < n → rank n key k < t → P k) → P j → (k : ℕ) → k < n → rank n key k < t + 1 → P k

@@ -90,23 +90,23 @@ module _ (b : ℕ → ℕ) where
     fuelled : all_minutes F + 1 - r ≡ suc (all_minutes F - r)
     fuelled = omega (arith, came.less)
 
-    goes-on-with : settled b F ≡ settled_within (suc (all_minutes F - r)) b G r
-    goes-on-with = came.goes ∙ ap (λ fuel. settled_within fuel b G r) fuelled
+    goes_on_with : settled b F ≡ settled_within (suc (all_minutes F - r)) b G r
+    goes_on_with = came.goes ∙ ap (λ fuel. settled_within fuel b G r) fuelled
 
     -- a round that stops is the end
     pub came_stops : (H : Face) (c : Cause) → stops c H ≡ round G b → record { cause = Some c; rounds = r + 1; held = H } ≡ settled b F
-    came_stops H c e = sym (goes-on-with ∙ within_stops (all_minutes F - r) G H r c (sym e))
+    came_stops H c e = sym (goes_on_with ∙ within_stops (all_minutes F - r) G H r c (sym e))
 
     -- so is one that changes nothing
     pub came_ends : (H : Face) → leaves H ≡ round G b → true ≡ unchanged G H → record { cause = None; rounds = r + 1; held = G } ≡ settled b F
-    came_ends H e u = sym (goes-on-with ∙ within_ends (all_minutes F - r) G H r (sym e) (sym u))
+    came_ends H e u = sym (goes_on_with ∙ within_ends (all_minutes F - r) G H r (sym e) (sym u))
 
     -- after any other settling goes on
     pub came_next : (H : Face) → Fine G → leaves H ≡ round G b → false ≡ unchanged G H → Came F H (r + 1)
     came_next H fine e u = record {
       lawful = shrunk_lawful G H b (round_leaves rules_hold turning_holds G b fine came.lawful H (sym e)).1.shrunk came.lawful;
       less = omega (arith, came.less, changed_less G H fine came.lawful e u);
-      goes = goes-on-with ∙ within_next (all_minutes F - r) G H r (sym e) (sym u) ∙ ap (λ fuel. settled_within fuel b H (r + 1)) (omega (arith, came.less));
+      goes = goes_on_with ∙ within_next (all_minutes F - r) G H r (sym e) (sym u) ∙ ap (λ fuel. settled_within fuel b H (r + 1)) (omega (arith, came.less));
     }
 
 -- numbers that are equal one by one are the numbers of a bound, at jobs and gaps that are equal

@@ -99,11 +99,11 @@ module _ (F : Face) (b : ℕ → ℕ) where
                   );
               resolved = λ f l. end ∙ w.resolved (sym flag ∙ f) (omega (arith, at.1));
             }
-        other d (inr (was, now-off, y, end)) =
+        other d (inr (was, now_off, y, end)) =
             let x = (walked i hi).still_grey was in
             record {
               to_come = λ l. absurd (omega (arith, x.0));
-              still_grey = λ g. absurd (both_ways _ now-off g);
+              still_grey = λ g. absurd (both_ways _ now_off g);
               resolved = λ _ _. end ∙ edge_found i j t hi at (omega (arith, x.0)) y x.2;
             }
 

@@ -1,5 +1,6 @@
 // Loads pages, good and damaged ones, and writes what each load answers.
 #![tactic(auto)]
+
 mod commands;
 
 use archive::{load, save};

@@ -1,5 +1,6 @@
 // Keeps the planner of one test rig: reads commands from standard input, one a line, and answers each.
 #![tactic(auto)]
+
 mod command;
 mod desk;
 mod files;

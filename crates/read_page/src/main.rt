@@ -1,5 +1,6 @@
 // Reads an archive page from standard input, and writes the sheet that is on it. Ends with status 1 where it is refused.
 #![tactic(auto)]
+
 use anyhow::anyhow;
 use archive::load;
 use changeover::ShortestWalk;

@@ -277,12 +277,12 @@ module _ (F : Face) (b : ℕ → ℕ) (S : ℕ → Bool) where
 
   module _ (fine : Fine F) (law : Lawful F.n F.gap b) (s : ℕ → ℕ) (possible : Possible F s) where
     -- of two jobs the one that starts first precedes the other
-    first-precedes : (x y : ℕ) → x < F.n → y < F.n → s x < s y → Precedes F s x y
-    first-precedes x y hx hy l = ⊎_elim (λ p. p) (λ p. absurd (omega arith)) (possible.1 x y hx hy (λ e. omega (arith, ap s e)))
+    first_precedes : (x y : ℕ) → x < F.n → y < F.n → s x < s y → Precedes F s x y
+    first_precedes x y hx hy l = ⊎_elim (λ p. p) (λ p. absurd (omega arith)) (possible.1 x y hx hy (λ e. omega (arith, ap s e)))
 
     -- different jobs start at different times, since each lasts a minute or more
-    starts-differ : (x y : ℕ) → x < F.n → y < F.n → x ≢ y → s x ≢ s y
-    starts-differ x y hx hy d e =
+    starts_differ : (x y : ℕ) → x < F.n → y < F.n → x ≢ y → s x ≢ s y
+    starts_differ x y hx hy d e =
         ⊎_elim (λ p. omega (arith, (fine.lasts x hx).0)) (λ p. omega (arith, (fine.lasts y hy).0)) (possible.1 x y hx hy d)
 
     -- a row that is the witness's jobs by start
@@ -291,18 +291,18 @@ module _ (F : Face) (b : ℕ → ℕ) (S : ℕ → Bool) where
         (j : ℕ) × (j < F.n) × (S j ≡ true) × (t ≤ s j + F.duration j)
     finishes lo hi t w [] n d here opens apart r = absurd (omega (arith, w.long))
     finishes lo hi t w (x ∷ xs) n d here opens apart r =
-        let v = row_ends F s (Here F S lo hi) (λ y z hy hz. first-precedes y z hy.job hz.job) x xs here r in
+        let v = row_ends F s (Here F S lo hi) (λ y z hy hz. first_precedes y z hy.job hz.job) x xs here r in
         let cuts = gaps_blocks F.n F.gap b law w.cuts (x ∷ xs) (n ∙ w.long) (here_jobs lo hi (x ∷ xs) here) apart in
         (v.0, v.1.job, v.1.inside, omega (arith, v.2, w.value, possible.0.opens x here.0.job, opens.0))
 
     -- so one of them finishes then or later
-    some-finishes : (lo hi t : ℕ) → Witness F b S lo hi t → (j : ℕ) × (j < F.n) × (S j ≡ true) × (t ≤ s j + F.duration j)
-    some-finishes lo hi t w =
+    some_finishes : (lo hi t : ℕ) → Witness F b S lo hi t → (j : ℕ) × (j < F.n) × (S j ≡ true) × (t ≤ s j + F.duration j)
+    some_finishes lo hi t w =
         finishes lo hi t w (sort s w.jobs) (length_sort s w.jobs) (total_sort s F.duration w.jobs)
         (all_sort s (Here F S lo hi) w.jobs w.here)
         (all_sort s (λ j. F.early w.first ≤ F.early j) w.jobs w.opens)
         (distinct_sort s w.jobs w.apart)
-        (rising_sort s (λ j. j < F.n) starts-differ w.jobs (here_jobs lo hi w.jobs w.here) w.apart)
+        (rising_sort s (λ j. j < F.n) starts_differ w.jobs (here_jobs lo hi w.jobs w.here) w.apart)
 
 -- where S has a job, E(S) is a time, and in every possible plan some job of S finishes then or later
 pub set_finishes : (F : Face) (b : ℕ → ℕ) → Fine F → Lawful F.n F.gap b → (S : ℕ → Bool) (a : ℕ) → a < F.n → S a ≡ true →
@@ -310,4 +310,4 @@ pub set_finishes : (F : Face) (b : ℕ → ℕ) → Fine F → Lawful F.n F.gap 
 set_finishes F b fine law S a ha sa =
     let v = has_time F b S a ha sa 5 0 (omega arith) (omega (arith, place_below F a ha, fine.few)) in
     let w = witness F b S 5 0 v.0 (omega arith) v.1 in
-    (v.0, time_is F b S ∙ v.1, λ s possible. some-finishes F b S fine law s possible 0 32 v.0 w)
+    (v.0, time_is F b S ∙ v.1, λ s possible. some_finishes F b S fine law s possible 0 32 v.0 w)

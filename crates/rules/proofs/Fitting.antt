@@ -49,14 +49,14 @@ module _ (J : Jobs) (limits : Limits J) where
 
   module _ (start : ℕ → ℕ) where
     -- a job that precedes one before another precedes that other, since a way round is no shorter
-    precedes-through : (i k j : ℕ) → i < J.n → k < J.n → j < J.n → Precedes (face_of J) start i k → Precedes (face_of J) start k j → Precedes (face_of J) start i j
-    precedes-through i k j hi hk hj p q = omega (arith, limits.triangle i k j hi hk hj)
+    precedes_through : (i k j : ℕ) → i < J.n → k < J.n → j < J.n → Precedes (face_of J) start i k → Precedes (face_of J) start k j → Precedes (face_of J) start i j
+    precedes_through i k j hi hk hj p q = omega (arith, limits.triangle i k j hi hk hj)
 
     -- of any two different jobs one precedes the other
-    fits-separated : Fits J start → Separated (face_of J) start
-    fits-separated f i j hi hj d =
+    fits_separated : Fits J start → Separated (face_of J) start
+    fits_separated f i j hi hj d =
         either_way (Precedes (face_of J) start) f.order i j
-        (in_turn J.n (Precedes (face_of J) start) precedes-through f.order f.whole.within f.apart) (f.whole.every i hi) (f.whole.every j hj) d
+        (in_turn J.n (Precedes (face_of J) start) precedes_through f.order f.whole.within f.apart) (f.whole.every i hi) (f.whole.every j hj) d
 
     pub fits_possible : Fits J start → Possible (face_of J) start
-    fits_possible f = (record { opens = f.opens; closes = f.closes }, fits-separated f)
+    fits_possible f = (record { opens = f.opens; closes = f.closes }, fits_separated f)

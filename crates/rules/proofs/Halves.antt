@@ -76,9 +76,9 @@ module _ (F : Face) (b : ℕ → ℕ) where
 
     module _ (law : Lawful F.n F.gap b) (start : ℕ → ℕ) (possible : Possible F start) where
       -- rule 7: the new windows keep the plan
-      early-keeps : (i : ℕ) → i < F.n → new_early F b i ≤ start i
+      early_keeps : (i : ℕ) → i < F.n → new_early F b i ≤ start i
       unfolding new_early
-      early-keeps i h =
+      early_keeps i h =
           omega (
             arith,
             possible.0.opens i h,
@@ -87,9 +87,9 @@ module _ (F : Face) (b : ℕ → ℕ) where
             edge_finding_keeps F b fine law start possible i h,
           )
 
-      late-keeps : (i : ℕ) → i < F.n → start i + F.duration i ≤ new_late F b i
+      late_keeps : (i : ℕ) → i < F.n → start i + F.duration i ≤ new_late F b i
       unfolding new_late
-      late-keeps i h = omega (arith, possible.0.closes i h, not_last_keeps F b fine law start possible i h)
+      late_keeps i h = omega (arith, possible.0.closes i h, not_last_keeps F b fine law start possible i h)
 
       -- so what goes on keeps it
       pub half_keeps : (G : Face) → half_round F b ≡ goes_on G → Possible G start
@@ -97,8 +97,8 @@ module _ (F : Face) (b : ℕ → ℕ) where
           let w = went G e in
           subst (λ H. Possible H start) w.windows (
             record {
-              opens = λ j h. omega (arith, of_job_is F.n (new_early F b) j h, early-keeps j h);
-              closes = λ j h. omega (arith, of_job_is F.n (new_late F b) j h, late-keeps j h);
+              opens = λ j h. omega (arith, of_job_is F.n (new_early F b) j h, early_keeps j h);
+              closes = λ j h. omega (arith, of_job_is F.n (new_late F b) j h, late_keeps j h);
             },
             possible.1,
           )
@@ -113,9 +113,9 @@ module _ (F : Face) (b : ℕ → ℕ) where
           (possible.1 i j hi hj d)
 
       -- the first test finds nothing
-      none-clashes : (x : Overload) → clashing F ≡ Some x → ⊥
+      none_clashes : (x : Overload) → clashing F ≡ Some x → ⊥
       unfolding clashing
-      none-clashes x e = outer (first_such (λ i. found (first_such (clash F i) F.n)) F.n) refl e
+      none_clashes x e = outer (first_such (λ i. found (first_such (clash F i) F.n)) F.n) refl e
         where
           inner : (i : ℕ) → i < F.n → (o : Option ℕ) → first_such (clash F i) F.n ≡ o → elim o [ None ↦ None | Some j ↦ Some (NeitherFirst i j) ] ≡ Some x → ⊥
           inner i hi None r q = grind arith
@@ -130,34 +130,34 @@ module _ (F : Face) (b : ℕ → ℕ) where
           outer (Some i) r q = inner i (such_passes (λ i. found (first_such (clash F i) F.n)) F.n i r).0 (first_such (clash F i) F.n) refl q
 
       -- all up to j can finish by its late end
-      no-excess : (j : ℕ) → j < F.n → too_much F b j ≡ true → ⊥
+      no_excess : (j : ℕ) → j < F.n → too_much F b j ≡ true → ⊥
       unfolding too_much
-      no-excess j hj t =
+      no_excess j hj t =
           let k = finishes_after F b fine law start possible (up_to F j) j (F.late j) hj (up_to_self F j) t in
           omega (arith, k.3, possible.0.closes k.0 k.1, up_to_late F j k.0 k.2)
 
       -- the second test finds nothing
-      none-overloads : (x : Overload) → overloading F b ≡ Some x → ⊥
+      none_overloads : (x : Overload) → overloading F b ≡ Some x → ⊥
       unfolding overloading
-      none-overloads x e = go (first_in (late_before F) (too_much F b) F.n) refl e
+      none_overloads x e = go (first_in (late_before F) (too_much F b) F.n) refl e
         where
           go : (o : Option ℕ) → first_in (late_before F) (too_much F b) F.n ≡ o → elim o [ None ↦ None | Some j ↦ Some (TooMuch j) ] ≡ Some x → ⊥
           go None r q = grind arith
-          go (Some j) r q = let w = first_is (late_before F) (too_much F b) F.n j r in no-excess j w.0 w.1
+          go (Some j) r q = let w = first_is (late_before F) (too_much F b) F.n j r in no_excess j w.0 w.1
 
       -- the third test finds nothing
-      none-too-short : (x : Overload) → shortened F b ≡ Some x → ⊥
+      none_too_short : (x : Overload) → shortened F b ≡ Some x → ⊥
       unfolding shortened
-      none-too-short x e = go (first_such (λ i. ltb (new_late F b i) (new_early F b i + F.duration i)) F.n) refl e
+      none_too_short x e = go (first_such (λ i. ltb (new_late F b i) (new_early F b i + F.duration i)) F.n) refl e
         where
           go : (o : Option ℕ) → first_such (λ i. ltb (new_late F b i) (new_early F b i + F.duration i)) F.n ≡ o → elim o [ None ↦ None | Some i ↦ Some (TooShort i) ] ≡ Some x → ⊥
           go None r q = grind arith
           go (Some i) r q =
               let w = such_passes (λ i. ltb (new_late F b i) (new_early F b i + F.duration i)) F.n i r in
-              omega (arith, ltb-true (new_late F b i) (new_early F b i + F.duration i) w.1, early-keeps i w.0, late-keeps i w.0)
+              omega (arith, ltb-true (new_late F b i) (new_early F b i + F.duration i) w.1, early_keeps i w.0, late_keeps i w.0)
 
       -- so a half round does not end overloaded
       pub overload_means_none : (x : Overload) → half_round F b ≡ overloaded x → ⊥
       unfolding half_round
       overload_means_none x e =
-          which (clashing F) (overloading F b) (shortened F b) (with_windows F (new_early F b) (new_late F b)) x none-clashes none-overloads none-too-short e
+          which (clashing F) (overloading F b) (shortened F b) (with_windows F (new_early F b) (new_late F b)) x none_clashes none_overloads none_too_short e

@@ -150,8 +150,8 @@ module _ (M : Model) where
 
   module _ (p : List ℕ) where
     -- the record of a card, field by field
-    card-stands : (card : ℕ) → CardStanding p M card → Stands p (record_start card) (record_bytes M card)
-    card-stands card c =
+    card_stands : (card : ℕ) → CardStanding p M card → Stands p (record_start card) (record_bytes M card)
+    card_stands card c =
         let at : ℕ = record_start card in
         stands_append p at (at + 2) c.next
         (stands_append p (at + 2) (at + 4) c.setup
@@ -165,8 +165,8 @@ module _ (M : Model) where
         (omega arith))
         (omega arith)
 
-    stands-card : (card : ℕ) → Stands p (record_start card) (record_bytes M card) → CardStanding p M card
-    stands-card card s =
+    stands_card : (card : ℕ) → Stands p (record_start card) (record_bytes M card) → CardStanding p M card
+    stands_card card s =
         let at : ℕ = record_start card in
         let a = stands_parts p at (at + 2) (bytes16 (next_in M.book.chain card)) _ s (omega arith) in
         let b = stands_parts p (at + 2) (at + 4) (bytes16 (job_on M.book card).setup) _ a.1 (omega arith) in
@@ -188,7 +188,7 @@ module _ (M : Model) where
         (joined_stands record_parts 24 (λ k. refl) p 524 32
         (λ k h.
         let back : k + 1 - 1 ≡ k = omega arith in
-        subst (λ j. Stands p (524 + 24 * j) (record_parts k)) back (card-stands (k + 1) (n.cards (k + 1) (within_card (k + 1) (omega arith) (omega arith))))))
+        subst (λ j. Stands p (524 + 24 * j) (record_parts k)) back (card_stands (k + 1) (n.cards (k + 1) (within_card (k + 1) (omega arith) (omega arith))))))
         (omega (arith, changeovers_long)))
         refl
 
@@ -211,7 +211,7 @@ module _ (M : Model) where
           cards = λ card is.
               let w = card_within card is in
               let back : card - 1 + 1 ≡ card = omega arith in
-              stands-card card (rw back at (stands_joined record_parts 24 (λ k. refl) p 524 32 b.1 (card - 1) (omega arith)));
+              stands_card card (rw back at (stands_joined record_parts 24 (λ k. refl) p 524 32 b.1 (card - 1) (omega arith)));
         }
 
 -- WHAT IS READ: a number of 2 bytes, and of 4, that stands there

@@ -168,25 +168,25 @@ module _ (B : Book) (sound : Sound B) where
 
   module _ (f : Meaning) (law : Law f) where
     -- settling the jobs of the book
-    settles-well : SettlingHolds (jobs_in B) (f (jobs_in B).n (gap_between (jobs_in B))) (outcome f B)
+    settles_well : SettlingHolds (jobs_in B) (f (jobs_in B).n (gap_between (jobs_in B))) (outcome f B)
     unfolding outcome
-    settles-well = settling_holds rules_hold turning_holds (jobs_in B) _ (limits B sound) (law _ _)
+    settles_well = settling_holds rules_hold turning_holds (jobs_in B) _ (limits B sound) (law _ _)
 
     -- of as many jobs
     as_many : (outcome f B).held.n ≡ (jobs_in B).n
     as_many =
         let J = jobs_in B in
         shrunk_n (face_of J) (outcome f B).held
-        (settles_ends rules_hold turning_holds (f J.n (gap_between J)) settles-well.by_the_rules (first_face_fine J (limits B sound)) (law J.n (gap_between J))).held.shrunk
+        (settles_ends rules_hold turning_holds (f J.n (gap_between J)) settles_well.by_the_rules (first_face_fine J (limits B sound)) (law J.n (gap_between J))).held.shrunk
 
     -- each promise, by card
-    settled-inside : (start : ℕ → ℕ) → PlanFits B start → (card : ℕ) → member card B.chain ≡ true → ((held_on (settled_book f B) card).early ≤ start card) × (start card + (job_on B card).duration ≤ (held_on (settled_book f B) card).late)
+    settled_inside : (start : ℕ → ℕ) → PlanFits B start → (card : ℕ) → member card B.chain ≡ true → ((held_on (settled_book f B) card).early ≤ start card) × (start card + (job_on B card).duration ≤ (held_on (settled_book f B) card).late)
     unfolding jobs_in
-    settled-inside start fits card m =
+    settled_inside start fits card m =
         let is = found_on card m in
         let j = length (rising_to B.chain (card - 1)) in
         let w = by_card_on B (outcome f B).held card m (on_chain card m) in
-        let p = settles-well.every_plan_inside_held (λ k. start (card_at B k)) fits j is.below in
+        let p = settles_well.every_plan_inside_held (λ k. start (card_at B k)) fits j is.below in
         let d = duration_at j is.below ∙ ap (λ x. (job_on B x).duration) is.here in
         (omega (arith, ap (λ x. x.early) w, p.0, ap start is.here), omega (arith, ap (λ x. x.late) w, p.1, d, ap start is.here))
 
@@ -197,38 +197,38 @@ module _ (B : Book) (sound : Sound B) where
         let is = found_on card m in
         let j = length (rising_to B.chain (card - 1)) in
         let w = by_card_on B (outcome f B).held card m (on_chain card m) in
-        let h = settles-well.held_inside_posted j is.below in
+        let h = settles_well.held_inside_posted j is.below in
         let late = of_job_is (length (rising B)) (λ k. (posted_on B (card_at B k)).late) j is.below ∙ ap (λ x. (posted_on B x).late) is.here in
         (omega (arith, ap (λ x. x.early) w, ap (λ x. x.late) w, h.2), omega (arith, ap (λ x. x.late) w, h.1, late))
 
-    settled-fits : (settled_book f B).status ≡ Settled → ((card : ℕ) → member card B.chain ≡ true → (held_on (settled_book f B) card).late ≡ (held_on (settled_book f B) card).early + (job_on B card).duration) → PlanFits B (λ card. (held_on (settled_book f B) card).early)
+    settled_fits : (settled_book f B).status ≡ Settled → ((card : ℕ) → member card B.chain ≡ true → (held_on (settled_book f B) card).late ≡ (held_on (settled_book f B) card).early + (job_on B card).duration) → PlanFits B (λ card. (held_on (settled_book f B) card).early)
     unfolding jobs_in
-    settled-fits e single =
+    settled_fits e single =
         let F = (outcome f B).held in
         fits_as (jobs_in B) F.early (λ j. (held_on (settled_book f B) (card_at B j)).early)
         (λ j h. sym (ap (λ x. x.early) (by_card_at B F j h)))
-        (settles-well.single_starts_fit (cause_none (outcome f B).cause e)
+        (settles_well.single_starts_fit (cause_none (outcome f B).cause e)
         (λ j h.
         let w = by_card_at B F j h in
         omega (arith, single (card_at B j) (placed B.chain 32 j h).there, ap (λ x. x.early) w, ap (λ x. x.late) w, duration_at j h)))
 
-    settled-rounds : (settled_book f B).rounds ≤ minutes_cut B (settled_book f B) + 1
+    settled_rounds : (settled_book f B).rounds ≤ minutes_cut B (settled_book f B) + 1
     unfolding jobs_in
-    settled-rounds =
+    settled_rounds =
         let F = (outcome f B).held in
         let n = length (rising B) in
         let cut = cut_minutes B (settled_book f B) F (by_card_at B F) n (omega arith) in
-        omega (arith, settles-well.rounds_within_minutes_cut, cut, ap (minutes F) as_many, ap (cut_from B (settled_book f B)) (take_all n (rising B) (omega arith)))
+        omega (arith, settles_well.rounds_within_minutes_cut, cut, ap (minutes F) as_many, ap (cut_from B (settled_book f B)) (take_all n (rising B) (omega arith)))
 
     -- a settled sheet holds the windows that settling leaves
     pub settled_promises : Promises B (settled_book f B)
     settled_promises = record {
       same_book = refl;
       no_plan_when_overloaded = λ e start fits.
-          let c = cause_some (outcome f B).cause e in settles-well.no_plan_when_overloaded c.0 c.1 (λ j. start (card_at B j)) fits;
-      every_plan_inside_held = settled-inside;
-      single_starts_fit = settled-fits;
-      rounds_within_minutes_cut = λ _. settled-rounds;
+          let c = cause_some (outcome f B).cause e in settles_well.no_plan_when_overloaded c.0 c.1 (λ j. start (card_at B j)) fits;
+      every_plan_inside_held = settled_inside;
+      single_starts_fit = settled_fits;
+      rounds_within_minutes_cut = λ _. settled_rounds;
     }
 
 -- the promises hold of what is left, where they hold of what an accepted call leaves

@@ -33,8 +33,8 @@ module _ (m : ℕ) (numbers : List ℕ) where
 
   module _ (accepted : Accepted m numbers) where
     -- at the place of two setups stands the changeover between them
-    laid-changeover : (a b : ℕ) → Setup m a → Setup m b → changeover 16 (laid_out m numbers) a b ≡ changeover m numbers a b
-    laid-changeover a b sa sb =
+    laid_changeover : (a b : ℕ) → Setup m a → Setup m b → changeover 16 (laid_out m numbers) a b ≡ changeover m numbers a b
+    laid_changeover a b sa sb =
         let within = accepted.sized in
         let row : (16 * (a - 1) + (b - 1)) / 16 ≡ a - 1 = omega arith in
         let column : (16 * (a - 1) + (b - 1)) % 16 ≡ b - 1 = omega arith in
@@ -42,8 +42,8 @@ module _ (m : ℕ) (numbers : List ℕ) where
         let g : b - 1 < m = omega arith in
         laid_at (16 * (a - 1) + (b - 1)) (omega arith) ∙ rw (row, column, lt-ltb (a - 1) m h, lt-ltb (b - 1) m g)
 
-    laid-small : (k : ℕ) → get_or (laid_out m numbers) k 0 ≤ 10000
-    laid-small k =
+    laid_small : (k : ℕ) → get_or (laid_out m numbers) k 0 ≤ 10000
+    laid_small k =
         ⊎_elim
         (λ h. rw (laid_at k h) (cond_both (ltb (k / 16) m && ltb (k % 16) m) (get_or numbers (m * (k / 16) + k % 16) 0) 0 (λ x. x ≤ 10000)
         (λ e.
@@ -64,9 +64,9 @@ fresh_sound m numbers e =
     let accepted : Accepted m numbers = subst (Judged m numbers) e (judged m numbers) in record {
       sized = accepted.sized;
       long_changeovers = laid_long m numbers;
-      small = laid-small m numbers accepted;
+      small = laid_small m numbers accepted;
       triangular = λ a b c sa sb sc.
-          omega (arith, accepted.triangular a b c sa sb sc, laid-changeover m numbers accepted a b sa sb, laid-changeover m numbers accepted a c sa sc, laid-changeover m numbers accepted c b sc sb);
+          omega (arith, accepted.triangular a b c sa sb sc, laid_changeover m numbers accepted a b sa sb, laid_changeover m numbers accepted a c sa sc, laid_changeover m numbers accepted c b sc sb);
       outside = laid_outside m numbers;
       chained = refl;
       long_jobs = refl;

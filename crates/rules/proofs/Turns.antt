@@ -90,10 +90,10 @@ module _ (F : Face) (fine : Fine F) where
   unfolding turned
   separated_turned start possible i j hi hj d =
       let inside = possible.0 in
-      let ends-i = inside.closes i hi in
-      let ends-j = inside.closes j hj in
-      let top-i = fine.closes i hi in
-      let top-j = fine.closes j hj in
+      let ends_i = inside.closes i hi in
+      let ends_j = inside.closes j hj in
+      let top_i = fine.closes i hi in
+      let top_j = fine.closes j hj in
       ⊎_elim (λ p. inr (omega arith)) (λ p. inl (omega arith)) (possible.1 i j hi hj d)
 
 pub turning_holds : TurningAlwaysHolds

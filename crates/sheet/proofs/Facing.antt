@@ -27,7 +27,7 @@ pub in_its_limits : (m : ℕ) (duration early late setup : ℕ) → Fitting m (r
 in_its_limits m duration early late setup fit =
     rw (le-leb 1 duration fit.lasts.0, le-leb duration 100000 fit.lasts.1, le-leb (early + duration) late fit.wide, le-leb late 1000000 fit.closes)
 
-module _ (B : Book) (good : ∥ Sound B ∥₁) (g : Gaps) (jobs : List Timed) (n : ℕ) (count : n ≡ length (rising B)) (many : jobs_of g ≡ length (rising B)) (gaps-are : (i j : ℕ) → gap_of g i j ≡ gap_among B.changeovers B.jobs (rising B) i j) (each : (i : ℕ) → i < length (rising B) → get_or jobs i no_job ≡ timed_at B.jobs B.posted (rising B) i) where
+module _ (B : Book) (good : ∥ Sound B ∥₁) (g : Gaps) (jobs : List Timed) (n : ℕ) (count : n ≡ length (rising B)) (many : jobs_of g ≡ length (rising B)) (gaps_are : (i j : ℕ) → gap_of g i j ≡ gap_among B.changeovers B.jobs (rising B) i j) (each : (i : ℕ) → i < length (rising B) → get_or jobs i no_job ≡ timed_at B.jobs B.posted (rising B) i) where
   timed_is : (i : ℕ) → i < length (rising B) → get_or (take (n - 0) jobs) i no_job ≡ timed_at B.jobs B.posted (rising B) i
   timed_is i h = get_or-take (n - 0) jobs i no_job (omega arith) ∙ each i h
 
@@ -46,7 +46,7 @@ module _ (B : Book) (good : ∥ Sound B ∥₁) (g : Gaps) (jobs : List Timed) (
         early = λ j. of_job_same (jobs_of g) (length (rising B)) (early_in (take (n - 0) jobs)) (λ i. (posted_on B (card_at B i)).early) many (λ i h. ap (λ (t : Timed). t.early) (timed_is i h)) j r;
         late = λ j. of_job_same (jobs_of g) (length (rising B)) (late_in (take (n - 0) jobs)) (λ i. (posted_on B (card_at B i)).late) many (λ i h. ap (λ (t : Timed). t.late) (timed_is i h)) j r;
         duration = λ j. of_job_same (jobs_of g) (length (rising B)) (duration_in (take (n - 0) jobs)) (λ i. (job_on B (card_at B i)).duration) many (λ i h. ap (λ (t : Timed). t.duration) (timed_is i h)) j r;
-        gap = λ i j. (gaps-are i j ∙ cond_same (among (length (rising B)) i j) _ _ (λ _. uncut i j)) r;
+        gap = λ i j. (gaps_are i j ∙ cond_same (among (length (rising B)) i j) _ _ (λ _. uncut i j)) r;
       }
 
   -- so a face can be made of it

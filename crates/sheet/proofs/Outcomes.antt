@@ -29,7 +29,7 @@ outcome_is f B F same = ap (λ (G : Face). settled (f G.n G.gap) G) same
 
 -- part by part the same
 pub same_sheet : (B : Book) {held held' : List Window} {status status' : Status} {rounds rounds' : ℕ} → held ≡ held' → status ≡ status' → rounds ≡ rounds' → ◌≡◌ {A = Model} (record { book = B; held = held; status = status; rounds = rounds }) (record { book = B; held = held'; status = status'; rounds = rounds' })
-same_sheet B held-are status-is rounds-are = λ r. record { book = B; held = held-are r; status = status-is r; rounds = rounds-are r }
+same_sheet B held_are status_is rounds_are = λ r. record { book = B; held = held_are r; status = status_is r; rounds = rounds_are r }
 
 pub same_answer : {status status' : Status} {rounds rounds' : ℕ} {cause cause' : Option Cause} → status ≡ status' → rounds ≡ rounds' → cause ≡ cause' → ◌≡◌ {A = Settlement} (record { status = status; rounds = rounds; cause = cause }) (record { status = status'; rounds = rounds'; cause = cause' })
-same_answer status-is rounds-are cause-is = λ r. record { status = status-is r; rounds = rounds-are r; cause = cause-is r }
+same_answer status_is rounds_are cause_is = λ r. record { status = status_is r; rounds = rounds_are r; cause = cause_is r }

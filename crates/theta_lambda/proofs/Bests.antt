@@ -64,13 +64,13 @@ module _ (lo mid hi : ℕ) (G : ℕ → Bool) (lm : lo ≤ mid) (mh : mid ≤ hi
     abbrev top : ℕ
     top = max (lp' + rp) (lp + rp')
 
-    load-all : (lq rq : Option ℕ) → Best lo mid G fl lp lp' lq → Best mid hi G fr rp rp' rq → (g : ℕ) → lo ≤ g → g < hi → G g ≡ true → f g ≤ top
-    load-all lq rq lb rb g a c t =
+    load_all : (lq rq : Option ℕ) → Best lo mid G fl lp lp' lq → Best mid hi G fr rp rp' rq → (g : ℕ) → lo ≤ g → g < hi → G g ≡ true → f g ≤ top
+    load_all lq rq lb rb g a c t =
         ⊎_elim (λ l. omega (arith, left g a l t, lb.all g a l t)) (λ l. omega (arith, right g l c t, rb.all g l c t)) (cases_lt g mid)
 
     -- by the right part, which is the greater
-    load-right : (lq rq : Option ℕ) → Best lo mid G fl lp lp' lq → Best mid hi G fr rp rp' rq → (lp' + rp < lp + rp') ⊎ (lq ≡ None) → Who lo hi G f (lp + rp) top rq
-    load-right lq rq lb rb s = go rq rb lq lb s
+    load_right : (lq rq : Option ℕ) → Best lo mid G fl lp lp' lq → Best mid hi G fr rp rp' rq → (lp' + rp < lp + rp') ⊎ (lq ≡ None) → Who lo hi G f (lp + rp) top rq
+    load_right lq rq lb rb s = go rq rb lq lb s
       where
         go : (rq : Option ℕ) → Best mid hi G fr rp rp' rq → (lq : Option ℕ) → Best lo mid G fl lp lp' lq → (lp' + rp < lp + rp') ⊎ (lq ≡ None) → Who lo hi G f (lp + rp) top rq
         go None rb lq lb (inl s) = omega (arith, rb.by, lb.low)
@@ -78,7 +78,7 @@ module _ (lo mid hi : ℕ) (G : ℕ → Bool) (lm : lo ≤ mid) (mh : mid ≤ hi
         go None rb (Some x) lb (inr s) = let z : ◌≡◌ {A = ℕ} 0 1 = cc in omega arith
         go (Some q) rb lq lb s =
             let w = rb.by in
-            let big : lp' + rp < lp + rp' = ⊎_elim (λ h. h) (λ e. let n : lp' ≡ lp = none-low lq e lb in omega (arith, w.3)) s in (
+            let big : lp' + rp < lp + rp' = ⊎_elim (λ h. h) (λ e. let n : lp' ≡ lp = none_low lq e lb in omega (arith, w.3)) s in (
               omega (arith, w.0),
               w.1,
               w.2,
@@ -87,12 +87,12 @@ module _ (lo mid hi : ℕ) (G : ℕ → Bool) (lm : lo ≤ mid) (mh : mid ≤ hi
               λ g a l t. ⊎_elim (λ m. omega (arith, left g a m t, lb.all g a m t)) (λ m. omega (arith, w.5 g m l t, right g m (omega (arith, w.1)) t)) (cases_lt g mid),
             )
           where
-            none-low : (lq : Option ℕ) → lq ≡ None → Best lo mid G fl lp lp' lq → lp' ≡ lp
-            none-low None e lb = lb.by
-            none-low (Some x) e lb = let z : ◌≡◌ {A = ℕ} 0 1 = cc in omega arith
+            none_low : (lq : Option ℕ) → lq ≡ None → Best lo mid G fl lp lp' lq → lp' ≡ lp
+            none_low None e lb = lb.by
+            none_low (Some x) e lb = let z : ◌≡◌ {A = ℕ} 0 1 = cc in omega arith
 
-    load-left : (q : ℕ) (rq : Option ℕ) → Best lo mid G fl lp lp' (Some q) → Best mid hi G fr rp rp' rq → lp + rp' ≤ lp' + rp → Who lo hi G f (lp + rp) top (Some q)
-    load-left q rq lb rb h =
+    load_left : (q : ℕ) (rq : Option ℕ) → Best lo mid G fl lp lp' (Some q) → Best mid hi G fr rp rp' rq → lp + rp' ≤ lp' + rp → Who lo hi G f (lp + rp) top (Some q)
+    load_left q rq lb rb h =
         let w = lb.by in (
           w.0,
           omega (arith, w.1),
@@ -103,14 +103,14 @@ module _ (lo mid hi : ℕ) (G : ℕ → Bool) (lm : lo ≤ mid) (mh : mid ≤ hi
         )
 
     pub load_joins : (lq rq : Option ℕ) → Best lo mid G fl lp lp' lq → Best mid hi G fr rp rp' rq → Best lo hi G f (lp + rp) top (heavy lp lp' rp rp' lq rq)
-    load_joins lq rq lb rb = record { low = omega (arith, lb.low, rb.low); all = load-all lq rq lb rb; by = by-which lq lb }
+    load_joins lq rq lb rb = record { low = omega (arith, lb.low, rb.low); all = load_all lq rq lb rb; by = by_which lq lb }
       where
-        by-which : (lq : Option ℕ) → Best lo mid G fl lp lp' lq → Who lo hi G f (lp + rp) top (heavy lp lp' rp rp' lq rq)
-        by-which None lb = load-right None rq lb rb (inr refl)
-        by-which (Some q) lb =
+        by_which : (lq : Option ℕ) → Best lo mid G fl lp lp' lq → Who lo hi G f (lp + rp) top (heavy lp lp' rp rp' lq rq)
+        by_which None lb = load_right None rq lb rb (inr refl)
+        by_which (Some q) lb =
             ⊎_elim
-            (λ l. subst (Who lo hi G f (lp + rp) top) (sym (cond-false (leb (lp + rp') (lp' + rp)) (Some q) rq (lt-leb (lp + rp') (lp' + rp) l))) (load-right (Some q) rq lb rb (inl l)))
-            (λ l. subst (Who lo hi G f (lp + rp) top) (sym (cond-true (leb (lp + rp') (lp' + rp)) (Some q) rq (le-leb (lp + rp') (lp' + rp) l))) (load-left q rq lb rb l))
+            (λ l. subst (Who lo hi G f (lp + rp) top) (sym (cond-false (leb (lp + rp') (lp' + rp)) (Some q) rq (lt-leb (lp + rp') (lp' + rp) l))) (load_right (Some q) rq lb rb (inl l)))
+            (λ l. subst (Who lo hi G f (lp + rp) top) (sym (cond-true (leb (lp + rp') (lp' + rp)) (Some q) rq (le-leb (lp + rp') (lp' + rp) l))) (load_left q rq lb rb l))
             (cases_lt (lp' + rp) (lp + rp'))
 
     -- there is a place for the join where there is one for either part
@@ -139,26 +139,26 @@ module _ (lo mid hi : ℕ) (G : ℕ → Bool) (lm : lo ≤ mid) (mh : mid ≤ hi
     abbrev e' : ℕ
     e' = max (max re' x) y
 
-    due-low : e ≤ e'
-    due-low = omega (arith, rb.low, sh_mono le le' (rp + b rn) (rp + b rn) lb.low (omega arith))
+    due_low : e ≤ e'
+    due_low = omega (arith, rb.low, sh_mono le le' (rp + b rn) (rp + b rn) lb.low (omega arith))
 
     in_left : (g : ℕ) → lo ≤ g → g < mid → G g ≡ true → f g ≤ max re y
     in_left g a c t = omega (arith, left g a c t, sh_mono (fl g) le' (rp + b rn) (rp + b rn) (lb.all g a c t) (omega arith))
 
     -- the part of a right grey place that goes by its load
-    by-load : (g : ℕ) → mid ≤ g → g < hi → G g ≡ true → sh le (pr g + b (rn + 1)) ≤ x
-    by-load g a c t = sh_mono le le (pr g + b (rn + 1)) (rp' + b rn') (omega arith) (omega (arith, rl.all g a c t, ap b (some g a c t)))
+    by_load : (g : ℕ) → mid ≤ g → g < hi → G g ≡ true → sh le (pr g + b (rn + 1)) ≤ x
+    by_load g a c t = sh_mono le le (pr g + b (rn + 1)) (rp' + b rn') (omega arith) (omega (arith, rl.all g a c t, ap b (some g a c t)))
 
     in_right : (g : ℕ) → mid ≤ g → g < hi → G g ≡ true → f g ≤ max re' x
-    in_right g a c t = omega (arith, right g a c t, rb.all g a c t, by-load g a c t)
+    in_right g a c t = omega (arith, right g a c t, rb.all g a c t, by_load g a c t)
 
     due_all : (g : ℕ) → lo ≤ g → g < hi → G g ≡ true → f g ≤ e'
     due_all g a c t = ⊎_elim (λ l. omega (arith, in_left g a l t, rb.low)) (λ l. omega (arith, in_right g l c t)) (cases_lt g mid)
 
     -- by the left part
-    due-left : (lq : Option ℕ) → Best lo mid G fl le le' lq → e < e' → y ≡ e' → Who lo hi G f e e' lq
-    due-left None lb above ey = absurd (omega (arith, ap (λ z. sh z (rp + b rn)) lb.by))
-    due-left (Some q) lb above ey =
+    due_left : (lq : Option ℕ) → Best lo mid G fl le le' lq → e < e' → y ≡ e' → Who lo hi G f e e' lq
+    due_left None lb above ey = absurd (omega (arith, ap (λ z. sh z (rp + b rn)) lb.by))
+    due_left (Some q) lb above ey =
         let w = lb.by in (
           w.0,
           omega (arith, w.1),
@@ -183,52 +183,52 @@ module _ (lo mid hi : ℕ) (G : ℕ → Bool) (lm : lo ≤ mid) (mh : mid ≤ hi
       λ g ga gl gt. ⊎_elim (λ l. omega (arith, in_left g ga l gt)) (λ l. lows g l gl gt) (cases_lt g mid),
     )
 
-    gives-end : (q : ℕ) → mid ≤ q → q < hi → G q ≡ true → fr q ≡ re' → re' ≡ e' → f q ≡ e'
-    gives-end q a c t h k = omega (arith, right q a c t, due_all q (omega arith) c t)
+    gives_end : (q : ℕ) → mid ≤ q → q < hi → G q ≡ true → fr q ≡ re' → re' ≡ e' → f q ≡ e'
+    gives_end q a c t h k = omega (arith, right q a c t, due_all q (omega arith) c t)
 
-    gives-load : (q : ℕ) → mid ≤ q → q < hi → G q ≡ true → pr q ≡ rp' → x ≡ e' → f q ≡ e'
-    gives-load q a c t h k =
+    gives_load : (q : ℕ) → mid ≤ q → q < hi → G q ≡ true → pr q ≡ rp' → x ≡ e' → f q ≡ e'
+    gives_load q a c t h k =
         let s : sh le (pr q + b (rn + 1)) ≡ x = ap (sh le) (omega (arith, ap b (some q a c t))) in
         omega (arith, right q a c t, due_all q (omega arith) c t)
 
     -- below the lowest that gives re', and below the lowest that gives rp'
-    less-end : (g : ℕ) → fr g < re' → sh le (pr g + b (rn + 1)) < e' → mid ≤ g → g < hi → G g ≡ true → f g < e'
-    less-end g h k a c t = omega (arith, right g a c t)
+    less_end : (g : ℕ) → fr g < re' → sh le (pr g + b (rn + 1)) < e' → mid ≤ g → g < hi → G g ≡ true → f g < e'
+    less_end g h k a c t = omega (arith, right g a c t)
 
-    less-load : (g : ℕ) → mid ≤ g → g < hi → G g ≡ true → pr g < rp' → e < e' → x ≡ e' → sh le (pr g + b (rn + 1)) < e'
-    less-load g a c t h above k =
+    less_load : (g : ℕ) → mid ≤ g → g < hi → G g ≡ true → pr g < rp' → e < e' → x ≡ e' → sh le (pr g + b (rn + 1)) < e'
+    less_load g a c t h above k =
         let p : 0 < le = sh_pos le (rp' + b rn') (omega arith) in
         let s = sh_right le (pr g + b (rn + 1)) (rp' + b rn') p (omega (arith, ap b (some g a c t))) in omega arith
 
-    due-right : (rq rh : Option ℕ) → Best mid hi G fr re re' rq → Best mid hi G pr rp rp' rh → Counted rn rn' rh → e < e' → y < e' →
+    due_right : (rq rh : Option ℕ) → Best mid hi G fr re re' rq → Best mid hi G pr rp rp' rh → Counted rn rn' rh → e < e' → y < e' →
         From (lower (cond (eqb re' e') rq None) (cond (eqb x e') rh None))
-    due-right rq rh rb rl rc above yl =
+    due_right rq rh rb rl rc above yl =
         ⊎_elim
         (λ re. subst (λ v. From (lower (cond v rq None) (cond (eqb x e') rh None))) (sym (eq-eqb re' e' re))
         (⊎_elim
         (λ xe. subst (λ v. From (lower rq (cond v rh None))) (sym (eq-eqb x e' xe)) (both rq rh rb rl rc re xe))
-        (λ xn. subst (λ v. From (lower rq (cond v rh None))) (sym (ne_eqb x e' xn)) (end-only rq rb re xn))
+        (λ xn. subst (λ v. From (lower rq (cond v rh None))) (sym (ne_eqb x e' xn)) (end_only rq rb re xn))
         (cases_eq x e')))
         (λ rn. subst (λ v. From (lower (cond v rq None) (cond (eqb x e') rh None))) (sym (ne_eqb re' e' rn))
         (⊎_elim
-        (λ xe. subst (λ v. From (cond v rh None)) (sym (eq-eqb x e' xe)) (load-only rh rl rc rn xe))
+        (λ xe. subst (λ v. From (cond v rh None)) (sym (eq-eqb x e' xe)) (load_only rh rl rc rn xe))
         (λ xn. absurd (omega arith))
         (cases_eq x e')))
         (cases_eq re' e')
       where
-        end-only : (rq : Option ℕ) → Best mid hi G fr re re' rq → re' ≡ e' → x ≢ e' → From (lower rq None)
-        end-only None rb h k = absurd (omega (arith, rb.by))
-        end-only (Some q) rb h k =
+        end_only : (rq : Option ℕ) → Best mid hi G fr re re' rq → re' ≡ e' → x ≢ e' → From (lower rq None)
+        end_only None rb h k = absurd (omega (arith, rb.by))
+        end_only (Some q) rb h k =
             let w = rb.by in
-            at_right q w.0 w.1 w.2 above yl (gives-end q w.0 w.1 w.2 w.4 h)
-            (λ g a l t. less-end g (w.5 g a l t) (omega (arith, by-load g a (omega (arith, w.1)) t)) a (omega (arith, w.1)) t)
+            at_right q w.0 w.1 w.2 above yl (gives_end q w.0 w.1 w.2 w.4 h)
+            (λ g a l t. less_end g (w.5 g a l t) (omega (arith, by_load g a (omega (arith, w.1)) t)) a (omega (arith, w.1)) t)
 
-        load-only : (rh : Option ℕ) → Best mid hi G pr rp rp' rh → Counted rn rn' rh → re' ≢ e' → x ≡ e' → From rh
-        load-only None rl rc h k = let s : rp' + b rn' ≡ rp + b rn = omega (arith, rl.by, ap b rc) in absurd (omega (arith, k, ap (sh le) s))
-        load-only (Some q) rl rc h k =
+        load_only : (rh : Option ℕ) → Best mid hi G pr rp rp' rh → Counted rn rn' rh → re' ≢ e' → x ≡ e' → From rh
+        load_only None rl rc h k = let s : rp' + b rn' ≡ rp + b rn = omega (arith, rl.by, ap b rc) in absurd (omega (arith, k, ap (sh le) s))
+        load_only (Some q) rl rc h k =
             let w = rl.by in
-            at_right q w.0 w.1 w.2 above yl (gives-load q w.0 w.1 w.2 w.4 k)
-            (λ g a l t. let c : g < hi = omega (arith, w.1) in omega (arith, right g a c t, rb.all g a c t, less-load g a c t (w.5 g a l t) above k))
+            at_right q w.0 w.1 w.2 above yl (gives_load q w.0 w.1 w.2 w.4 k)
+            (λ g a l t. let c : g < hi = omega (arith, w.1) in omega (arith, right g a c t, rb.all g a c t, less_load g a c t (w.5 g a l t) above k))
 
         both : (rq rh : Option ℕ) → Best mid hi G fr re re' rq → Best mid hi G pr rp rp' rh → Counted rn rn' rh → re' ≡ e' → x ≡ e' → From (lower rq rh)
         both None rh rb rl rc h k = absurd (omega (arith, rb.by))
@@ -237,25 +237,25 @@ module _ (lo mid hi : ℕ) (G : ℕ → Bool) (lm : lo ≤ mid) (mh : mid ≤ hi
             let w = rb.by in
             let u = rl.by in
             let lows : (g : ℕ) → mid ≤ g → g < min q p → G g ≡ true → f g < e' = λ g a l t. let c : g < hi = omega (arith, w.1) in
-            less-end g (w.5 g a (omega arith) t) (less-load g a c t (u.5 g a (omega arith) t) above k) a c t in
+            less_end g (w.5 g a (omega arith) t) (less_load g a c t (u.5 g a (omega arith) t) above k) a c t in
             ⊎_elim
             (λ l. let m : q ≡ min q p = omega arith in
-            subst (λ z. From (Some z)) m (at_right q w.0 w.1 w.2 above yl (gives-end q w.0 w.1 w.2 w.4 h) (λ g a s t. lows g a (omega arith) t)))
+            subst (λ z. From (Some z)) m (at_right q w.0 w.1 w.2 above yl (gives_end q w.0 w.1 w.2 w.4 h) (λ g a s t. lows g a (omega arith) t)))
             (λ l. let m : p ≡ min q p = omega arith in
-            subst (λ z. From (Some z)) m (at_right p u.0 u.1 u.2 above yl (gives-load p u.0 u.1 u.2 u.4 k) (λ g a s t. lows g a (omega arith) t)))
+            subst (λ z. From (Some z)) m (at_right p u.0 u.1 u.2 above yl (gives_load p u.0 u.1 u.2 u.4 k) (λ g a s t. lows g a (omega arith) t)))
             (cases_lt q p)
 
     pub due_joins : Best lo hi G f e e' (choose e e' y re' x lq rq rh)
     due_joins = record {
-      low = due-low;
+      low = due_low;
       all = due_all;
       by = ⊎_elim
           (λ h. subst (λ v. From (cond v None (cond (eqb y e') lq (lower (cond (eqb re' e') rq None) (cond (eqb x e') rh None))))) (sym (eq-eqb e' e h)) h)
-          (λ h. let above : e < e' = omega (arith, due-low) in
+          (λ h. let above : e < e' = omega (arith, due_low) in
           subst (λ v. From (cond v None (cond (eqb y e') lq (lower (cond (eqb re' e') rq None) (cond (eqb x e') rh None))))) (sym (ne_eqb e' e h))
           (⊎_elim
-          (λ k. subst (λ v. From (cond v lq (lower (cond (eqb re' e') rq None) (cond (eqb x e') rh None)))) (sym (eq-eqb y e' k)) (due-left lq lb above k))
-          (λ k. subst (λ v. From (cond v lq (lower (cond (eqb re' e') rq None) (cond (eqb x e') rh None)))) (sym (ne_eqb y e' k)) (due-right rq rh rb rl rc above (omega arith)))
+          (λ k. subst (λ v. From (cond v lq (lower (cond (eqb re' e') rq None) (cond (eqb x e') rh None)))) (sym (eq-eqb y e' k)) (due_left lq lb above k))
+          (λ k. subst (λ v. From (cond v lq (lower (cond (eqb re' e') rq None) (cond (eqb x e') rh None)))) (sym (ne_eqb y e' k)) (due_right rq rh rb rl rc above (omega arith)))
           (cases_eq y e')))
           (cases_eq e' e);
     }

@@ -142,17 +142,17 @@ module _ (b : ℕ → ℕ) (low : (e : ℕ) → b e ≤ 400000) (L : ℕ → Lea
 
   -- P' and e' of small parts are small
   module _ (k p : ℕ) (x : Grey) (h : p + 2 ^ k ≤ 32) (gx : Grown k p x) where
-    small-white : Small (2 ^ k) x.white
-    small-white = subst (Small (2 ^ k)) (sym gx.white_is) (small b low L ok k p h)
+    small_white : Small (2 ^ k) x.white
+    small_white = subst (Small (2 ^ k)) (sym gx.white_is) (small b low L ok k p h)
 
-    small-total : x.grey.total ≤ 100000 * 2 ^ k
-    small-total =
-        best_under p (p + 2 ^ k) G (λ g. x.white.total + duration (L g)) x.white.total x.grey.total (100000 * 2 ^ k) x.heaviest gx.loads small-white.totals
+    small_total : x.grey.total ≤ 100000 * 2 ^ k
+    small_total =
+        best_under p (p + 2 ^ k) G (λ g. x.white.total + duration (L g)) x.white.total x.grey.total (100000 * 2 ^ k) x.heaviest gx.loads small_white.totals
         (λ g a c t. omega (arith, ap (λ y. y.total) gx.white_is, (more g k p t a c h).0, (small_with g k p h).totals))
 
-    small-finish : rank x.grey.finish ≤ 1000001 + 500000 * 2 ^ k
-    small-finish =
-        best_under p (p + 2 ^ k) G (λ g. rank (T⁺ g k p).finish) (rank x.white.finish) (rank x.grey.finish) (1000001 + 500000 * 2 ^ k) x.responsible gx.dues small-white.ends
+    small_finish : rank x.grey.finish ≤ 1000001 + 500000 * 2 ^ k
+    small_finish =
+        best_under p (p + 2 ^ k) G (λ g. rank (T⁺ g k p).finish) (rank x.white.finish) (rank x.grey.finish) (1000001 + 500000 * 2 ^ k) x.responsible gx.dues small_white.ends
         (λ g a c t. (small_with g k p h).ends)
 
   module _ (k p : ℕ) (h : p + 2 ^ suc k ≤ 32) (l r : Grey) (gl : Grown k p l) (gr : Grown k (p + 2 ^ k) r) where
@@ -175,7 +175,7 @@ module _ (b : ℕ → ℕ) (low : (e : ℕ) → b e ≤ 400000) (L : ℕ → Lea
     w = white_join b l.white r.white
 
     whites : Plain b l.white r.white (white_join b l.white r.white)
-    whites = plain b low (2 ^ k) l.white r.white (omega arith) (small-white k p l hl gl) (small-white k mid r hr gr)
+    whites = plain b low (2 ^ k) l.white r.white (omega arith) (small_white k p l hl gl) (small_white k mid r hr gr)
 
     rloads : Best mid hi G (λ g. r.white.total + duration (L g)) r.white.total r.grey.total r.heaviest
     rloads = subst (λ z. Best mid z G (λ g. r.white.total + duration (L g)) r.white.total r.grey.total r.heaviest) end gr.loads
@@ -184,11 +184,11 @@ module _ (b : ℕ → ℕ) (low : (e : ℕ) → b e ≤ 400000) (L : ℕ → Lea
     rdues = subst (λ z. Best mid z G (λ g. rank (T⁺ g k mid).finish) (rank r.white.finish) (rank r.grey.finish) r.responsible) end gr.dues
 
     total_is : grey_total l r ≡ max (l.grey.total + r.white.total) (l.white.total + r.grey.total)
-    total_is = omega (arith, small-total k p l hl gl, small-total k mid r hr gr, (small-white k p l hl gl).totals, (small-white k mid r hr gr).totals)
+    total_is = omega (arith, small_total k p l hl gl, small_total k mid r hr gr, (small_white k p l hl gl).totals, (small_white k mid r hr gr).totals)
 
-    loads-join : Best p hi G (λ g. w.total + duration (L g)) w.total (grey_total l r) (heavy l.white.total l.grey.total r.white.total r.grey.total l.heaviest r.heaviest)
+    loads_join : Best p hi G (λ g. w.total + duration (L g)) w.total (grey_total l r) (heavy l.white.total l.grey.total r.white.total r.grey.total l.heaviest r.heaviest)
     unfolding w
-    loads-join =
+    loads_join =
         let e = whites.total_is in
         let H : Option ℕ = heavy l.white.total l.grey.total r.white.total r.grey.total l.heaviest r.heaviest in
         subst (λ z. Best p hi G (λ g. z + duration (L g)) z (grey_total l r) H) (sym e)
@@ -196,24 +196,24 @@ module _ (b : ℕ → ℕ) (low : (e : ℕ) → b e ≤ 400000) (L : ℕ → Lea
         (load_joins p mid hi G (omega arith) (omega arith) (λ g. l.white.total + duration (L g)) (λ g. r.white.total + duration (L g)) (λ g. (l.white.total + r.white.total) + duration (L g))
         l.white.total l.grey.total r.white.total r.grey.total (λ g a c t. omega arith) (λ g a c t. omega arith) l.heaviest r.heaviest gl.loads rloads))
 
-    numbers-join : Counted w.count (grey_count w.count l.heaviest r.heaviest) (heavy l.white.total l.grey.total r.white.total r.grey.total l.heaviest r.heaviest)
+    numbers_join : Counted w.count (grey_count w.count l.heaviest r.heaviest) (heavy l.white.total l.grey.total r.white.total r.grey.total l.heaviest r.heaviest)
     unfolding w
-    numbers-join =
+    numbers_join =
         let n : ℕ = (white_join b l.white r.white).count in
-        let e : capped (n + 1) ≡ n + 1 = omega (arith, whites.count_is, (small-white k p l hl gl).counts, (small-white k mid r hr gr).counts) in
+        let e : capped (n + 1) ≡ n + 1 = omega (arith, whites.count_is, (small_white k p l hl gl).counts, (small_white k mid r hr gr).counts) in
         counted_joins p mid hi G (omega arith) (omega arith) (λ g. l.white.total + duration (L g)) (λ g. r.white.total + duration (L g)) (λ g. (l.white.total + r.white.total) + duration (L g))
         l.white.total l.grey.total r.white.total r.grey.total (λ g a c t. omega arith) (λ g a c t. omega arith) l.heaviest r.heaviest gl.loads rloads
         n _ (ap (λ z. cond (is_some l.heaviest || is_some r.heaviest) z n) e)
 
     -- a leaf of the left part leaves the right one, and the other way round
-    right-same : (g : ℕ) → g < mid → T⁺ g k mid ≡ r.white
-    right-same g c = elsewhere g k mid (inl c) ∙ sym gr.white_is
+    right_same : (g : ℕ) → g < mid → T⁺ g k mid ≡ r.white
+    right_same g c = elsewhere g k mid (inl c) ∙ sym gr.white_is
 
-    left-same : (g : ℕ) → mid ≤ g → T⁺ g k p ≡ l.white
-    left-same g c = elsewhere g k p (inr c) ∙ sym gl.white_is
+    left_same : (g : ℕ) → mid ≤ g → T⁺ g k p ≡ l.white
+    left_same g c = elsewhere g k p (inr c) ∙ sym gl.white_is
 
-    right-more : (g : ℕ) → mid ≤ g → g < hi → G g ≡ true → More g r.white (T⁺ g k mid)
-    right-more g a c t = subst (λ y. More g y (T⁺ g k mid)) (sym gr.white_is) (more g k mid t a (omega arith) hr)
+    right_more : (g : ℕ) → mid ≤ g → g < hi → G g ≡ true → More g r.white (T⁺ g k mid)
+    right_more g a c t = subst (λ y. More g y (T⁺ g k mid)) (sym gr.white_is) (more g k mid t a (omega arith) hr)
 
     -- the ranks of e, of el + Pr' + b(nr'), of el' + Pr + b(nr), and of e'
     abbrev le : ℕ
@@ -231,54 +231,54 @@ module _ (b : ℕ → ℕ) (low : (e : ℕ) → b e ≤ 400000) (L : ℕ → Lea
     abbrev e' : ℕ
     e' = max (max (rank r.grey.finish) x) y
 
-    x-is : x ≡ rank (across b l r)
-    x-is = sym (rank_after l.white.finish (r.grey.total + b r.grey.count) (omega (arith, (small-white k p l hl gl).ends, small-total k mid r hr gr, low r.grey.count)))
+    x_is : x ≡ rank (across b l r)
+    x_is = sym (rank_after l.white.finish (r.grey.total + b r.grey.count) (omega (arith, (small_white k p l hl gl).ends, small_total k mid r hr gr, low r.grey.count)))
 
-    y-is : y ≡ rank (along b l r)
-    y-is = sym (rank_after l.grey.finish (r.white.total + b r.white.count) (omega (arith, small-finish k p l hl gl, (small-white k mid r hr gr).totals, low r.white.count)))
+    y_is : y ≡ rank (along b l r)
+    y_is = sym (rank_after l.grey.finish (r.white.total + b r.white.count) (omega (arith, small_finish k p l hl gl, (small_white k mid r hr gr).totals, low r.white.count)))
 
-    e'-is : e' ≡ rank (grey_finish b l r)
-    e'-is = omega (arith, rank_later (later r.grey.finish (across b l r)) (along b l r), rank_later r.grey.finish (across b l r), x-is, y-is)
+    e'_is : e' ≡ rank (grey_finish b l r)
+    e'_is = omega (arith, rank_later (later r.grey.finish (across b l r)) (along b l r), rank_later r.grey.finish (across b l r), x_is, y_is)
 
-    f-is : (g : ℕ) → rank (T⁺ g (suc k) p).finish ≡ max (rank (T⁺ g k mid).finish) (sh (rank (T⁺ g k p).finish) ((T⁺ g k mid).total + b (T⁺ g k mid).count))
-    f-is g = (plain_with g k p h).finish_is
+    f_is : (g : ℕ) → rank (T⁺ g (suc k) p).finish ≡ max (rank (T⁺ g k mid).finish) (sh (rank (T⁺ g k p).finish) ((T⁺ g k mid).total + b (T⁺ g k mid).count))
+    f_is g = (plain_with g k p h).finish_is
 
-    f-left : (g : ℕ) → p ≤ g → g < mid → G g ≡ true → rank (T⁺ g (suc k) p).finish ≡ max (rank r.white.finish) (sh (rank (T⁺ g k p).finish) (r.white.total + b r.white.count))
-    f-left g a c t = f-is g ∙ ap (λ z. max (rank z.finish) (sh (rank (T⁺ g k p).finish) (z.total + b z.count))) (right-same g c)
+    f_left : (g : ℕ) → p ≤ g → g < mid → G g ≡ true → rank (T⁺ g (suc k) p).finish ≡ max (rank r.white.finish) (sh (rank (T⁺ g k p).finish) (r.white.total + b r.white.count))
+    f_left g a c t = f_is g ∙ ap (λ z. max (rank z.finish) (sh (rank (T⁺ g k p).finish) (z.total + b z.count))) (right_same g c)
 
-    f-right : (g : ℕ) → mid ≤ g → g < hi → G g ≡ true → rank (T⁺ g (suc k) p).finish ≡ max (rank (T⁺ g k mid).finish) (sh le ((r.white.total + duration (L g)) + b (r.white.count + 1)))
-    f-right g a c t =
-        let m = right-more g a c t in
-        f-is g ∙ ap (λ z. max (rank (T⁺ g k mid).finish) (sh (rank z.finish) ((T⁺ g k mid).total + b (T⁺ g k mid).count))) (left-same g a)
+    f_right : (g : ℕ) → mid ≤ g → g < hi → G g ≡ true → rank (T⁺ g (suc k) p).finish ≡ max (rank (T⁺ g k mid).finish) (sh le ((r.white.total + duration (L g)) + b (r.white.count + 1)))
+    f_right g a c t =
+        let m = right_more g a c t in
+        f_is g ∙ ap (λ z. max (rank (T⁺ g k mid).finish) (sh (rank z.finish) ((T⁺ g k mid).total + b (T⁺ g k mid).count))) (left_same g a)
         ∙ ap (λ n. max (rank (T⁺ g k mid).finish) (sh le (n + b (T⁺ g k mid).count))) m.0 ∙ ap (λ n. max (rank (T⁺ g k mid).finish) (sh le ((r.white.total + duration (L g)) + b n))) m.1
 
-    dues-best : Best p hi G (λ g. rank (T⁺ g (suc k) p).finish) e e' (choose e e' y (rank r.grey.finish) x l.responsible r.responsible r.heaviest)
-    dues-best =
+    dues_best : Best p hi G (λ g. rank (T⁺ g (suc k) p).finish) e e' (choose e e' y (rank r.grey.finish) x l.responsible r.responsible r.heaviest)
+    dues_best =
         due_joins p mid hi G (omega arith) (omega arith) b (λ g. rank (T⁺ g k p).finish) (λ g. rank (T⁺ g k mid).finish) (λ g. r.white.total + duration (L g)) (λ g. rank (T⁺ g (suc k) p).finish)
-        le (rank l.grey.finish) (rank r.white.finish) (rank r.grey.finish) r.white.total r.grey.total r.white.count r.grey.count f-left f-right
+        le (rank l.grey.finish) (rank r.white.finish) (rank r.grey.finish) r.white.total r.grey.total r.white.count r.grey.count f_left f_right
         l.responsible r.responsible r.heaviest gl.dues rdues rloads gr.numbers
         (λ g a c t. (has_heaviest mid hi r.white.total r.grey.total r.white.count r.grey.count g (λ q. r.white.total + duration (L q)) r.heaviest rloads gr.numbers a c t
         (omega (arith, lasts_one (L g) (ok g (omega arith)) t))).0)
 
-    dues-join : Best p hi G (λ g. rank (T⁺ g (suc k) p).finish) (rank w.finish) (rank (grey_finish b l r))
+    dues_join : Best p hi G (λ g. rank (T⁺ g (suc k) p).finish) (rank w.finish) (rank (grey_finish b l r))
         (choose (rank w.finish) (rank (grey_finish b l r)) (rank (along b l r)) (rank r.grey.finish) (rank (across b l r)) l.responsible r.responsible r.heaviest)
     unfolding w
-    dues-join =
+    dues_join =
         let F : ℕ → ℕ → ℕ → ℕ → Type 0 = λ e top y x. Best p hi G (λ g. rank (T⁺ g (suc k) p).finish) e top (choose e top y (rank r.grey.finish) x l.responsible r.responsible r.heaviest) in
         subst (λ z. F z (rank (grey_finish b l r)) (rank (along b l r)) (rank (across b l r))) (sym whites.finish_is)
-        (subst (λ z. F e z (rank (along b l r)) (rank (across b l r))) e'-is
-        (subst (λ z. F e e' z (rank (across b l r))) y-is (subst (λ z. F e e' y z) x-is dues-best)))
+        (subst (λ z. F e z (rank (along b l r)) (rank (across b l r))) e'_is
+        (subst (λ z. F e e' z (rank (across b l r))) y_is (subst (λ z. F e e' y z) x_is dues_best)))
 
-    join-grown : Grown (suc k) p (grey_join b l r)
+    join_grown : Grown (suc k) p (grey_join b l r)
     unfolding grow grey_join w
-    join-grown = record {
+    join_grown = record {
       white_is = let lw = gl.white_is in let rw' = gr.white_is in (cc);
-      loads = loads-join;
-      numbers = numbers-join;
-      dues = dues-join;
+      loads = loads_join;
+      numbers = numbers_join;
+      dues = dues_join;
     }
 
   pub grey_grown : (k p : ℕ) → p + 2 ^ k ≤ 32 → Grown k p (X k p)
   unfolding grow
   grey_grown zero p h = leaf_grown p (L p) refl (ok p (omega arith))
-  grey_grown (suc k) p h = join-grown k p h (X k p) (X k (p + 2 ^ k)) (grey_grown k p (omega arith)) (grey_grown k (p + 2 ^ k) (omega arith))
+  grey_grown (suc k) p h = join_grown k p h (X k p) (X k (p + 2 ^ k)) (grey_grown k p (omega arith)) (grey_grown k (p + 2 ^ k) (omega arith))

@@ -19,13 +19,13 @@ same_rank None (Some c) e = absurd (omega arith)
 same_rank (Some a) None e = absurd (omega arith)
 same_rank (Some a) (Some c) e = let k : a ≡ c = omega arith in ap (λ n. Some n) k
 
-module _ {X : Type 0} (rank-of : X → ℕ) (one : (x y : X) → rank-of x ≡ rank-of y → x ≡ y) (L : ℕ → Leaf) (f : ℕ → X) (base top : X) where
+module _ {X : Type 0} (rank_of : X → ℕ) (one : (x y : X) → rank_of x ≡ rank_of y → x ≡ y) (L : ℕ → Leaf) (f : ℕ → X) (base top : X) where
   abbrev TheBest : Option ℕ → Type 0
-  TheBest who = Best 0 32 (λ g. is_grey (L g)) (λ g. rank-of (f g)) (rank-of base) (rank-of top) who
+  TheBest who = Best 0 32 (λ g. is_grey (L g)) (λ g. rank_of (f g)) (rank_of base) (rank_of top) who
 
   none_at : (who : Option ℕ) → TheBest who → top ≡ base → who ≡ None
   none_at None best e = refl
-  none_at (Some q) best e = absurd (omega (arith, best.by.3, ap rank-of e))
+  none_at (Some q) best e = absurd (omega (arith, best.by.3, ap rank_of e))
 
   base_at : (who : Option ℕ) → TheBest who → who ≡ None → top ≡ base
   base_at None best e = one top base best.by
@@ -37,9 +37,9 @@ module _ {X : Type 0} (rank-of : X → ℕ) (one : (x y : X) → rank-of x ≡ r
       let eq : q ≡ g = cc in
       let w = best.by in
       subst (Lowest L f top) eq
-      (record { inside = w.1; at_a_grey_leaf = w.2; gives_it = one (f q) top w.4; none_lower = λ h l t k. omega (arith, w.5 h (omega arith) l t, ap rank-of k) })
+      (record { inside = w.1; at_a_grey_leaf = w.2; gives_it = one (f q) top w.4; none_lower = λ h l t k. omega (arith, w.5 h (omega arith) l t, ap rank_of k) })
 
-  greatest : (who : Option ℕ) → TheBest who → Greatest rank-of L f base top who
+  greatest : (who : Option ℕ) → TheBest who → Greatest rank_of L f base top who
   greatest who best = record {
     not_below_base = best.low;
     not_below_a_grey = λ g h t. best.all g (omega arith) h t;

@@ -14,9 +14,9 @@ pub record Lowest {X : Type 0} (leaves : ℕ → Leaf) (f : ℕ → X) (top : X)
 
 -- top is the greatest of base and of f at the grey places, in the order of their ranks;
 -- the place is none where that is base, and else the lowest grey place that gives it
-pub record Greatest {X : Type 0} (rank-of : X → ℕ) (leaves : ℕ → Leaf) (f : ℕ → X) (base top : X) (place : Option ℕ) : Type 0 where
-  pub not_below_base : rank-of base ≤ rank-of top
-  pub not_below_a_grey : (g : ℕ) → g < 32 → is_grey (leaves g) ≡ true → rank-of (f g) ≤ rank-of top
+pub record Greatest {X : Type 0} (rank_of : X → ℕ) (leaves : ℕ → Leaf) (f : ℕ → X) (base top : X) (place : Option ℕ) : Type 0 where
+  pub not_below_base : rank_of base ≤ rank_of top
+  pub not_below_a_grey : (g : ℕ) → g < 32 → is_grey (leaves g) ≡ true → rank_of (f g) ≤ rank_of top
   pub none_where_base : top ≡ base → place ≡ None
   pub base_where_none : place ≡ None → top ≡ base
   pub lowest_that_gives_it : (g : ℕ) → place ≡ Some g → Lowest leaves f top g

@@ -3,7 +3,7 @@ ghost use Rattle.std.specs.Prelude.{◌≡◌, ℕ, ◌<◌, ◌≤◌, slice_in
 ghost use Rattle.rules.specs.Faces.{earliest_finish, latest_start};
 ghost use Rattle.rules.specs.Places.{place};
 ghost use Rattle.face.specs.Shown.{shown};
-ghost use Rattle.face.specs.Orders.{HasRank, Placed, Listed};
+ghost use Rattle.face.specs.Orders.{HasRank, Placed, Ranked, Listed};
 ghost use Rattle.face.specs.Readings.{read};
 
 use super::Reading;
@@ -34,7 +34,8 @@ fn earliest_finishes(face: &Face) -> [u32; 32]
 
 // The place of each job.
 fn places(face: &Face) -> [usize; 32]
-    ensures { Placed (shown face.now) result }
+    ensures seated { Placed (shown face.now) result }
+    ensures ranked { Ranked (shown face.now).n (shown face.now).early result }
 {
     ranks(face.earlies(), face.jobs())
 }

@@ -5,7 +5,7 @@ ghost use Rattle.rules.specs.Plans.{face_of};
 ghost use Rattle.rules.specs.Models.{named, named_cause, status_of, settle_answer};
 ghost use Rattle.rules.specs.Histories.{settles, step, Stays};
 ghost use Rattle.chain.specs.Listed.{cards};
-ghost use Rattle.face.specs.Shown.{shown as face-shown};
+ghost use Rattle.face.specs.Shown.{shown as face_shown};
 ghost use Rattle.sheet.specs.Shown.{book_of, shown};
 
 use super::Sheet;
@@ -57,7 +57,7 @@ impl Sheet {
     // The jobs of the sheet in card order, as settling reads them.
     fn face(&self, order: &Chain) -> Face
         requires { cards order.now ≡ rising (book_of self.now) }
-        ensures { face-shown result ≡ face_of (jobs_in (book_of self.now)) }
+        ensures { face_shown result ≡ face_of (jobs_in (book_of self.now)) }
     {
         let gaps = gaps_among(&self.changeovers, &self.jobs, order);
         let jobs = timed(&self.jobs, &self.posted, order);

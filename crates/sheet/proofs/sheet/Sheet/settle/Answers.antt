@@ -4,7 +4,7 @@ use Rattle.rules.specs.Models.{outcome, status_of, named_cause}
 use Rattle.rules.specs.Histories.{settles}
 use Rattle.rules.proofs.Promised.{stays}
 use Rattle.filtering.specs.Ends.{Says}
-use Rattle.face.specs.Shown.{shown as face-shown}
+use Rattle.face.specs.Shown.{shown as face_shown}
 use Rattle.sheet.specs.Shown.{book_of, shown}
 use Rattle.sheet.proofs.Outcomes.{held_by_card, outcome_is, same_sheet, same_answer}
 use Rattle.sheet.proofs.sheet.Sheet.settle.Goals as goal
@@ -14,7 +14,7 @@ returns g c =
     let B = book_of c.args.self.now in
     let f = g.B.Bound.becomes c.args.bound in
     let o = c.settle-outcome.result in
-    let is = outcome_is f B (face-shown c.face.result) c.face.ensures in
+    let is = outcome_is f B (face_shown c.face.result) c.face.ensures in
     let says = subst (Says o) is c.settle-outcome.ensures in
     let status-is = c.status_of-status.ensures ∙ ap status_of says.cause in
     let held-are = c.by_card-held.ensures ∙ held_by_card B (outcome f B).held o.held says.held in
