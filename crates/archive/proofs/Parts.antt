@@ -1,9 +1,8 @@
 -- The part of a page that starts at a record. Assumes nothing.
-use Rattle.std.proofs.Common.{◌≡◌, ℕ, ◌+◌, ◌-◌, ◌*◌, ◌<◌, ◌≤◌, List, get_or, take, drop, ap, ◌∙◌, ap₂, arith}
+use Rattle.std.proofs.Common.{◌≡◌, ℕ, ◌+◌, ◌<◌, ◌≤◌, List, get_or, take, drop, ap, ◌∙◌, ap₂, arith}
 use Rattle.std.proofs.lemmas.List.{get_or-take, get_or-drop}
 use Rattle.rules.specs.Faults.{record_start}
 use Rattle.rules.specs.Pages.{le16, le32}
-use Rattle.archive.specs.declared.record.Record.{Record}
 use Rattle.archive.specs.Records.{record_from, record_in}
 
 module _ (p : List ℕ) (at : ℕ) where

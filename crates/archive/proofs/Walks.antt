@@ -1,12 +1,12 @@
 -- The links of a page, one after another. Assumes nothing.
-use Rattle.std.proofs.Common.{◌≡◌, ℕ, zero, suc, ◌+◌, ◌-◌, ◌<◌, ◌≤◌, true, false, cond, not, ◌&&◌, eqb, ◌≢◌, List, [], ◌∷◌, ◌++◌, length, take, Ok, Err, sym, refl, ap, ◌∙◌, ap₂, arith, length-take}
+use Rattle.std.proofs.Common.{◌≡◌, ℕ, zero, suc, ◌+◌, ◌-◌, ◌<◌, ◌≤◌, true, false, cond, ◌≢◌, List, [], ◌∷◌, ◌++◌, length, Ok, Err, sym, refl, ap, ◌∙◌, arith, length-take}
 use Rattle.std.proofs.lemmas.List.{length-append}
 use Rattle.std.proofs.lemmas.Bool.{ne_eqb, eq-eqb}
 use Rattle.chain.specs.declared.chain.Chain.{Chain}
 use Rattle.chain.specs.Listed.{cards, can_join}
 use Rattle.rules.specs.declared.faults.ChainFault.TheVariants.{Link}
 use Rattle.rules.specs.Faults.{record_start}
-use Rattle.rules.specs.Pages.{le16, links_from, links}
+use Rattle.rules.specs.Pages.{le16, links_from}
 
 pub cards_few : (chain : Chain) → length (cards chain) ≤ 32
 cards_few chain = simp length-take (omega (arith, chain.few))

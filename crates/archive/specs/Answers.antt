@@ -1,5 +1,5 @@
 -- What is answered about a page on the way to its sheet. Assumes nothing.
-use Rattle.std.specs.Prelude.{ℕ, cond, ◌&&◌, List, [], length, Some, None, Ok, Err, Option, Result, ◌==◌, nat_le}
+use Rattle.std.specs.Prelude.{ℕ, cond, List, [], length, Some, None, Ok, Err, Option, Result, ◌==◌, nat_le}
 use Rattle.matrix.specs.Matrix.{matrix_answer}
 use Rattle.rules.specs.declared.faults.PageFault.{PageFault}
 use Rattle.rules.specs.declared.faults.PageFault.TheVariants.{Size, Version, Status, Stray, Unsettled}

@@ -1,5 +1,5 @@
 -- The numbers are what the rules say: a value in the place of "no candidate" never shows. Assumes nothing.
-use Rattle.std.proofs.Common.{◌≡◌, ℕ, zero, suc, ◌+◌, ◌*◌, ◌<◌, ◌≤◌, ◌≢◌, sym, refl, ◌∙◌, inl, inr, ⊎_elim, add-one, arith}
+use Rattle.std.proofs.Common.{◌≡◌, ℕ, zero, suc, ◌+◌, ◌*◌, ◌<◌, ◌≤◌, ◌≢◌, sym, refl, ◌∙◌, ⊎_elim, add-one, arith}
 use Rattle.std.proofs.lemmas.Bool.{cases_eq, cond-true, lt-ltb}
 use Rattle.changeover.specs.Kinds.{least, but, least_gap, multiples, walk, shortest_walk}
 use Rattle.changeover.specs.Rules.{LeastGapOf, LeastGapRule, LeastOver, ShortestWalkRule}

@@ -1,8 +1,8 @@
 -- Each kind of bound keeps the law, and its numbers are small. Assumes nothing.
-use Rattle.std.specs.Prelude.{◌≡◌, ℕ, zero, suc, ◌+◌, ◌*◌, ◌<◌, ◌≤◌, min, true, false, cond, ◌≢◌, List, [], ◌∷◌, length, ◌==◌, nat_lt, refl}
-use Rattle.std.proofs.Common.{sym, ap, ◌∙◌, ⊎_elim, mul-le-mul, suc-mul, zero-mul, zero-add, add-one, arith}
-use Rattle.std.proofs.lemmas.Bool.{cond_both, cond-true, cond-false, ltb-true, ltb-false, le-ltb, lt-ltb}
-use Rattle.changeover.specs.Rows.{Lawful, Row, Within, Different, gaps_from, gaps_along}
+use Rattle.std.specs.Prelude.{◌≡◌, ℕ, suc, ◌+◌, ◌*◌, ◌<◌, ◌≤◌, cond, ◌≢◌, List, [], ◌∷◌, length, ◌==◌, nat_lt}
+use Rattle.std.proofs.Common.{sym, ap, ◌∙◌, mul-le-mul, suc-mul, zero-mul, zero-add, add-one, arith}
+use Rattle.std.proofs.lemmas.Bool.{cond_both, cond-false, ltb-true, ltb-false, le-ltb}
+use Rattle.changeover.specs.Rows.{Lawful, Within, Different, gaps_from, gaps_along}
 use Rattle.changeover.specs.Kinds.{larger, least, but, least_gap, multiples, walk, shortest_walk, below}
 use Rattle.changeover.specs.Leasts.{least_top, least_same, least_under, but_other}
 

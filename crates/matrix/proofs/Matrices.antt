@@ -1,11 +1,10 @@
 -- What the questions of a matrix find. Assumes nothing.
-use Rattle.std.proofs.Common.{◌≡◌, ℕ, ◌+◌, ◌*◌, ◌<◌, ◌≤◌, true, false, cond, ◌&&◌, eqb, ltb, leb, ◌⊎◌, List, length, Some, None, Ok, Err, Option, Result, sym, refl, ap, ◌∙◌, subst, inl, inr, ⊎_elim, arith}
-use Rattle.std.proofs.lemmas.Bool.{cond-true, cond-false, cond_both, lt-ltb, le-ltb, ltb-true, ltb-false, leb-true, leb-false, eqb-true, eqb-false, and_parts, and_cases, cases_lt, le-leb, eq-eqb}
+use Rattle.std.proofs.Common.{◌≡◌, ℕ, ◌+◌, ◌*◌, ◌<◌, ◌≤◌, true, false, ◌&&◌, eqb, leb, List, length, Some, None, Ok, Option, sym, refl, ap, ◌∙◌, subst, ⊎_elim, arith}
+use Rattle.std.proofs.lemmas.Bool.{cond-true, cond-false, cond_both, lt-ltb, le-ltb, leb-true, leb-false, eqb-true, eqb-false, and_parts, and_cases, cases_lt, le-leb, eq-eqb}
 use Rattle.matrix.specs.declared.refusals.Entry.{Entry}
 use Rattle.matrix.specs.declared.refusals.Triple.{Triple}
-use Rattle.matrix.specs.declared.refusals.MatrixRefusal.{MatrixRefusal}
-use Rattle.matrix.specs.declared.refusals.MatrixRefusal.TheVariants.{Setups, Count, TooGreat, Triangle}
-use Rattle.matrix.specs.Matrix.{changeover, first, too_great, first_too_great, breaks, broken, first_broken, refused_or, matrix_answer, Setup, Sized, Small, Triangular, BeforeEntry, FirstTooGreat, BeforeTriple, FirstBroken, Accepted, Judged}
+use Rattle.matrix.specs.declared.refusals.MatrixRefusal.TheVariants.{TooGreat, Triangle}
+use Rattle.matrix.specs.Matrix.{changeover, first, too_great, first_too_great, breaks, broken, first_broken, refused_or, matrix_answer, Setup, Sized, Small, Triangular, FirstTooGreat, FirstBroken, Judged}
 use Rattle.matrix.proofs.Searches.{none_before, found_first}
 
 module _ (m : ℕ) (numbers : List ℕ) where

@@ -1,5 +1,5 @@
 -- The jobs sorted by their starts: where the starts are separated, each is followed by one that it precedes. Assumes nothing.
-use Rattle.std.proofs.Common.{ℕ, zero, suc, ◌<◌, ◌≤◌, cond, ltb, ◌≢◌, ◌⊎◌, List, [], ◌∷◌, sym, refl, inl, inr, ⊎_elim, not-suc-le-zero, arith}
+use Rattle.std.proofs.Common.{ℕ, zero, suc, ◌<◌, ◌≤◌, ltb, ◌≢◌, List, [], ◌∷◌, sym, refl, inl, inr, ⊎_elim, not-suc-le-zero, arith}
 use Rattle.std.proofs.lemmas.Bool.{cond_both, cases_eq, ltb-true, ltb-false}
 use Rattle.changeover.specs.Rows.{Apart, Different, Within}
 use Rattle.rules.specs.Faces.{Face}

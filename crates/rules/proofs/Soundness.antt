@@ -1,5 +1,5 @@
 -- That a book is sound is one fact, in however many ways it is known: so it comes out of a ghost field. Assumes nothing.
-use Rattle.std.proofs.Common.{◌≡◌, ℕ, Bool, true, false, is_ok, Ok, Err, Result, refl, ap}
+use Rattle.std.proofs.Common.{◌≡◌, true, false, is_ok, Ok, Err, Result, refl, ap}
 use mathlib.Core.Bool.{Bool-set}
 use mathlib.Core.Logic.{∥∥₁_elim}
 use native.Mathlib.Nat.{ℕ_set}

@@ -1,5 +1,5 @@
 -- All that was done to a sheet since it was made, and what is promised after it. Assumes nothing.
-use Rattle.std.specs.Prelude.{◌≡◌, ℕ, ◌+◌, ◌-◌, ◌≤◌, Bool, true, List, [], ◌∷◌, Ok, ◌≢◌}
+use Rattle.std.specs.Prelude.{◌≡◌, ℕ, ◌+◌, ◌-◌, ◌≤◌, true, List, [], ◌∷◌, Ok, ◌≢◌}
 use Rattle.matrix.specs.Matrix.{matrix_answer}
 use Rattle.rules.specs.declared.sheet.Job.{Job}
 use Rattle.rules.specs.declared.sheet.Window.{Window}

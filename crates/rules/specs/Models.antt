@@ -1,7 +1,6 @@
 -- A sheet, and what each call answers and leaves. Assumes nothing.
-use Rattle.std.specs.Prelude.{◌≡◌, ℕ, ◌+◌, ◌-◌, Bool, cond, ◌&&◌, List, [], ◌∷◌, ◌++◌, map, length, replicate, Some, None, Ok, Err, Option, Result, nat_le, slice_index_or, slice_set}
+use Rattle.std.specs.Prelude.{ℕ, ◌+◌, ◌-◌, Bool, cond, ◌&&◌, List, [], ◌∷◌, ◌++◌, map, length, replicate, Some, None, Ok, Err, Option, Result, nat_le, slice_index_or, slice_set}
 use Rattle.std.specs.List.{range_with_len}
-use Rattle.matrix.specs.declared.refusals.MatrixRefusal.{MatrixRefusal}
 use Rattle.matrix.specs.Matrix.{matrix_answer}
 use Rattle.changeover.specs.Rows.{Lawful}
 use Rattle.rules.specs.declared.outcome.Overload.{Overload}
@@ -21,7 +20,7 @@ use Rattle.rules.specs.Refusals.{on_card}
 use Rattle.rules.specs.Cards.{member, is_card, without, rising_to}
 use Rattle.rules.specs.Books.{Book, no_job, no_window, job_on, posted_on, card_at, jobs_in, laid_out}
 use Rattle.rules.specs.Faces.{Face, horizon}
-use Rattle.rules.specs.Plans.{Jobs, gap_between, face_of}
+use Rattle.rules.specs.Plans.{gap_between, face_of}
 use Rattle.rules.specs.Settling.{Outcome, settled}
 
 -- A SHEET: its job book, and what is held of it

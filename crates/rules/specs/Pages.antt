@@ -1,7 +1,6 @@
 -- Archive pages: the bytes of a sheet, and the sheet of any bytes. Assumes nothing.
-use Rattle.std.specs.Prelude.{◌≡◌, ℕ, zero, suc, ◌+◌, ◌-◌, ◌*◌, ◌/◌, ◌%◌, ◌<◌, Bool, true, false, cond, not, ◌&&◌, ◌||◌, ◌⊎◌, List, [], ◌∷◌, ◌++◌, map, length, Some, None, Ok, Err, Option, Result, ◌==◌, nat_le, nat_lt, slice_index}
+use Rattle.std.specs.Prelude.{◌≡◌, ℕ, zero, suc, ◌+◌, ◌-◌, ◌*◌, ◌/◌, ◌%◌, ◌<◌, Bool, true, cond, not, ◌&&◌, ◌⊎◌, List, [], ◌∷◌, ◌++◌, map, length, Some, None, Ok, Err, Option, Result, ◌==◌, nat_le, nat_lt, slice_index}
 use Rattle.std.specs.List.{range_with_len}
-use Rattle.matrix.specs.declared.refusals.MatrixRefusal.{MatrixRefusal}
 use Rattle.matrix.specs.Matrix.{matrix_answer}
 use Rattle.rules.specs.declared.refusals.JobRefusal.{JobRefusal}
 use Rattle.rules.specs.declared.faults.JobFault.{JobFault}

@@ -1,5 +1,5 @@
 -- What the calls leave of a job book. Assumes nothing.
-use Rattle.std.proofs.Common.{◌≡◌, ℕ, ◌-◌, Bool, true, false, cond, not, ◌&&◌, List, [], ◌∷◌, ◌++◌, set, replicate, Ok, Err, Result, sym, refl, ap, ◌∙◌, subst, ap₂}
+use Rattle.std.proofs.Common.{◌≡◌, ℕ, ◌-◌, true, cond, List, [], ◌∷◌, ◌++◌, set, replicate, Ok, Err, Result, sym, ◌∙◌, subst, ap₂}
 use mathlib.Core.Logic.{∥∥₁_map}
 use Rattle.matrix.specs.Matrix.{matrix_answer}
 use Rattle.rules.specs.declared.sheet.Job.{Job}

@@ -1,5 +1,5 @@
 -- What settling a sheet leaves and answers is what is defined of its job book. Assumes nothing.
-use Rattle.std.proofs.Common.{◌≡◌, ℕ, ◌+◌, cond, List, map, length, get_or, Option, ap}
+use Rattle.std.proofs.Common.{◌≡◌, ℕ, ◌+◌, cond, List, map, length, Option, ap}
 use mathlib.Core.Path.{fun_ext}
 use Rattle.std.specs.List.{range_with_len}
 use Rattle.rules.specs.declared.outcome.Cause.{Cause}

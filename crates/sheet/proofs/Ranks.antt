@@ -1,5 +1,5 @@
 -- How many cards of a chain are at most k. Assumes nothing.
-use Rattle.std.proofs.Common.{◌≡◌, ℕ, suc, ◌+◌, Bool, true, false, cond, List, [], ◌∷◌, ◌++◌, length, refl, ap, ◌∙◌, add-one, arith}
+use Rattle.std.proofs.Common.{◌≡◌, ℕ, suc, ◌+◌, true, false, cond, List, [], ◌∷◌, ◌++◌, length, refl, add-one, arith}
 use Rattle.std.proofs.lemmas.List.{length-append}
 use Rattle.rules.specs.Cards.{member, rising_to}
 

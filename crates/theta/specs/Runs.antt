@@ -1,5 +1,5 @@
 -- Runs of calls on a tree. Assumes nothing.
-use Rattle.std.specs.Prelude.{◌≡◌, ℕ, ◌+◌, List, set, replicate, slice_index_or, slice_set}
+use Rattle.std.specs.Prelude.{◌≡◌, ℕ, ◌+◌, List, replicate, slice_index_or, slice_set}
 use Rattle.theta.specs.Tree.{stepped, cleared, grown}
 
 -- a call at a place: a leaf put there, turned grey, dropped, lifted or set back

@@ -1,4 +1,4 @@
-use Rattle.std.proofs.Common.{◌≡◌, take, ap, ◌∙◌, arith, take_all}
+use Rattle.std.proofs.Common.{ap, ◌∙◌, arith, take_all}
 use Rattle.rules.specs.Cards.{is_card}
 use Rattle.rules.specs.Models.{reopened}
 use Rattle.rules.specs.Pages.{page_book}

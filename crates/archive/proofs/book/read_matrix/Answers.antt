@@ -1,4 +1,4 @@
-use Rattle.std.proofs.Common.{◌≡◌, ℕ, ◌-◌, ◌*◌, ◌≤◌, take, sym, ap, ◌∙◌, subst, arith, rules}
+use Rattle.std.proofs.Common.{◌≡◌, ℕ, ◌-◌, ◌*◌, ◌≤◌, take, sym, ap, ◌∙◌, arith, rules}
 use Rattle.sheet.specs.Shown.{shown}
 use Rattle.archive.proofs.Posting.{matrix_made}
 use Rattle.matrix.specs.Matrix.{Sized}

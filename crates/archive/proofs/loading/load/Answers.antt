@@ -1,8 +1,6 @@
-use Rattle.std.proofs.Common.{◌≡◌, is_ok, Ok, Err, Result, sym, ap, ◌∙◌, arith}
+use Rattle.std.proofs.Common.{is_ok, Err, sym, ap, ◌∙◌, arith}
 use Rattle.std.proofs.lemmas.Result.{err_from_is_err_and}
 use Rattle.std.proofs.lemmas.Bool.{both_ways}
-use Rattle.rules.specs.declared.faults.PageFault.{PageFault}
-use Rattle.rules.specs.Models.{Model}
 use Rattle.rules.specs.Histories.{loads}
 use Rattle.rules.proofs.Promised.{stays}
 use Rattle.rules.proofs.PageTrips.{saves_same}

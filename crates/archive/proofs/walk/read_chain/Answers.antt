@@ -1,10 +1,8 @@
-use Rattle.std.proofs.Common.{◌≡◌, ℕ, true, List, drop, Ok, Err, Result, sym, ap, ◌∙◌, subst, arith}
+use Rattle.std.proofs.Common.{Err, sym, ap, ◌∙◌, arith}
 use Rattle.std.proofs.lemmas.Result.{err_from_is_err_and}
 use Rattle.std.proofs.lemmas.List.{at_drop_all}
-use Rattle.rules.specs.declared.faults.ChainFault.{ChainFault}
 use Rattle.rules.specs.Cards.{is_card}
 use Rattle.rules.specs.Pages.{jobs_pass}
-use Rattle.chain.specs.declared.chain.Chain.{Chain}
 use Rattle.chain.specs.Listed.{cards}
 use Rattle.archive.specs.Chains.{cards_of}
 use Rattle.archive.proofs.Passing.{card_of, job_fault, job_fault_is, fault_here, passed_here, chain_is}

@@ -1,7 +1,6 @@
-use Rattle.std.proofs.Common.{◌≡◌, ℕ, ◌+◌, ◌-◌, List, [], ◌∷◌, ◌++◌, length, sym, refl, ap, ◌∙◌, ap₂, arith}
+use Rattle.std.proofs.Common.{◌≡◌, ℕ, ◌-◌, List, [], ◌∷◌, ◌++◌, length, sym, ap, ◌∙◌, ap₂, arith}
 use Rattle.chain.specs.Listed.{cards}
-use Rattle.rules.specs.Faults.{record_start}
-use Rattle.rules.specs.Pages.{le16, links_from, links}
+use Rattle.rules.specs.Pages.{links_from, links}
 use Rattle.archive.specs.declared.record.Record.{Record}
 use Rattle.archive.proofs.Walks.{cards_few, ends, stops, goes, more, longer}
 use Rattle.archive.proofs.walk.walk.Goals as goal

@@ -1,5 +1,5 @@
 use Rattle.std.proofs.Common.{arith, rules}
-use Rattle.changeover.specs.Kinds.{least, but}
+use Rattle.changeover.specs.Kinds.{but}
 use Rattle.changeover.specs.Table.{gap_of}
 use Rattle.changeover.specs.Leasts.{least_more, least_top, but_same, but_other}
 use Rattle.changeover.proofs.least_gap.least_from.Goals as goal

@@ -1,4 +1,4 @@
-use Rattle.std.proofs.Common.{◌≡◌, ◌-◌, sym, ap, ◌∙◌, subst, arith, length-set}
+use Rattle.std.proofs.Common.{◌≡◌, sym, ap, ◌∙◌, subst, arith, length-set}
 use Rattle.theta_nodes.specs.White.{Timed}
 use Rattle.rules.specs.Faces.{earliest_finish, latest_start}
 use Rattle.rules.specs.Places.{E}

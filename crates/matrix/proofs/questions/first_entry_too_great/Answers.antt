@@ -1,4 +1,4 @@
-use Rattle.std.proofs.Common.{◌≡◌, ℕ, Some, Option, sym, ap, ◌∙◌, arith}
+use Rattle.std.proofs.Common.{ℕ, Some, Option, sym, ap, ◌∙◌, arith}
 use Rattle.matrix.specs.declared.refusals.Entry.{Entry}
 use Rattle.matrix.specs.Matrix.{first, too_great}
 use Rattle.matrix.proofs.Searches.{first_more, first_all, first_found}

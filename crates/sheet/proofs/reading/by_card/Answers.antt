@@ -1,7 +1,6 @@
-use Rattle.std.proofs.Common.{◌≡◌, ℕ, ◌+◌, ◌<◌, Bool, true, false, cond, length, get_or, sym, ap, ◌∙◌, ap₂, arith, length-set}
+use Rattle.std.proofs.Common.{◌≡◌, ℕ, ◌+◌, Bool, true, false, cond, length, get_or, sym, ◌∙◌, ap₂, arith, length-set}
 use Rattle.std.proofs.lemmas.List.FromFn.{fill_by_all}
 use Rattle.std.proofs.lemmas.List.Edits.{fill_by_more}
-use Rattle.rules.specs.declared.sheet.Window.{Window}
 use Rattle.rules.specs.Cards.{member, rising_to}
 use Rattle.rules.specs.Books.{no_window}
 use Rattle.chain.specs.Listed.{cards}

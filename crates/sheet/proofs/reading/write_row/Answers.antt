@@ -1,6 +1,6 @@
-use Rattle.std.proofs.Common.{◌≡◌, ℕ, ◌<◌, min, length, sym, ap, ◌∙◌, ap₂, arith}
+use Rattle.std.proofs.Common.{ℕ, min, ap, ◌∙◌, ap₂, arith}
 use Rattle.matrix.specs.Matrix.{changeover}
-use Rattle.changeover.specs.Table.{jobs_of, gap_of}
+use Rattle.changeover.specs.Table.{gap_of}
 use Rattle.rules.specs.declared.sheet.Job.{Job}
 use Rattle.chain.specs.Listed.{cards}
 use Rattle.sheet.specs.Read.{gap_at}

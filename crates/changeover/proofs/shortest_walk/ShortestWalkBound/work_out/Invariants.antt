@@ -1,4 +1,4 @@
-use Rattle.std.proofs.Common.{◌≡◌, ℕ, ◌+◌, ◌<◌, ◌≤◌, length, get_or}
+use Rattle.std.proofs.Common.{◌≡◌, ℕ, ◌<◌, ◌≤◌, length, get_or}
 use Rattle.changeover.specs.Kinds.{least, walk}
 use Rattle.changeover.specs.Table.{gap_of, jobs_of}
 use Rattle.changeover.proofs.shortest_walk.ShortestWalkBound.work_out.Given as goal

@@ -1,5 +1,4 @@
-use Rattle.std.proofs.Common.{◌≡◌, ℕ, get_or, sym, ◌∙◌, subst, arith}
-use Rattle.rules.specs.Places.{place}
+use Rattle.std.proofs.Common.{ℕ, get_or, sym, ◌∙◌, subst, arith}
 use Rattle.face.specs.Shown.{shown}
 use Rattle.face.specs.Orders.{Ranked}
 use Rattle.face.proofs.Fines.{fine}

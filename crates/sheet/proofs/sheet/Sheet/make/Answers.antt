@@ -1,4 +1,4 @@
-use Rattle.std.proofs.Common.{◌≡◌, Ok, Err, sym, ap, ◌∙◌}
+use Rattle.std.proofs.Common.{sym, ◌∙◌}
 use Rattle.rules.specs.Models.{fresh_book, reopened}
 use Rattle.rules.specs.Histories.{made}
 use Rattle.rules.proofs.Promised.{kept_made}

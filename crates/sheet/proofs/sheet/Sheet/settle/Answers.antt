@@ -1,4 +1,4 @@
-use Rattle.std.proofs.Common.{◌≡◌, ℕ, List, get_or, Option, ap, ◌∙◌, subst, ap₂}
+use Rattle.std.proofs.Common.{ℕ, List, get_or, Option, ap, ◌∙◌, subst, ap₂}
 use Rattle.rules.specs.declared.outcome.Cause.{Cause}
 use Rattle.rules.specs.Models.{outcome, status_of, named_cause}
 use Rattle.rules.specs.Histories.{settles}

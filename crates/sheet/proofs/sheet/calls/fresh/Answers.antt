@@ -1,7 +1,6 @@
-use Rattle.std.proofs.Common.{◌≡◌, Ok, ap, subst}
+use Rattle.std.proofs.Common.{ap, subst}
 use Rattle.matrix.specs.Matrix.{Judged}
 use Rattle.matrix.proofs.Matrices.{judged}
-use Rattle.rules.specs.Books.{Book}
 use Rattle.rules.specs.Models.{reopened}
 use Rattle.sheet.proofs.Effects.{fresh_as, fresh_good}
 use Rattle.sheet.proofs.sheet.calls.fresh.Goals as goal
