@@ -17,6 +17,7 @@ fn over_for(face: &Face, i: usize, j: usize) -> u32
 }
 
 // Whether job i can precede job j: after it and the gap, j can still start.
+#[tactic(auto, unfolding(rules::specs::Rules::can_precede))]
 fn can_precede(face: &Face, i: usize, j: usize) -> bool
     ensures { result ≡ can_precede (shown face.now) i j }
 {
@@ -24,6 +25,7 @@ fn can_precede(face: &Face, i: usize, j: usize) -> bool
 }
 
 // Whether neither of two jobs can precede the other, and i has the lower card.
+#[tactic(auto, unfolding(rules::specs::Rules::clash))]
 fn is_clash(face: &Face, i: usize, j: usize) -> bool
     ensures { result ≡ clash (shown face.now) i j }
 {

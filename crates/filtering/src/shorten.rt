@@ -13,7 +13,7 @@ use face::{Face, Reading};
 use rules::Overload;
 
 // The early ends that the rules leave.
-fn new_earlies<W: Numbers>(reading: &Reading, b: &W) -> [u32; 32]
+pub(crate) fn new_earlies<W: Numbers>(reading: &Reading, b: &W) -> [u32; 32]
     requires { overloading (read reading.now) (W.Numbers.at b.now) ≡ None }
     ensures { (i : ℕ) → i < (read reading.now).n → slice_index result i ≡ new_early (read reading.now) (W.Numbers.at b.now) i }
 {
@@ -29,7 +29,7 @@ fn new_earlies<W: Numbers>(reading: &Reading, b: &W) -> [u32; 32]
 }
 
 // The late ends that the rules leave.
-fn new_lates<W: Numbers>(reading: &Reading, b: &W) -> [u32; 32]
+pub(crate) fn new_lates<W: Numbers>(reading: &Reading, b: &W) -> [u32; 32]
     ensures { (i : ℕ) → i < (read reading.now).n → slice_index result i ≡ new_late (read reading.now) (W.Numbers.at b.now) i }
 {
     let face = reading.face();
