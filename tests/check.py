@@ -64,7 +64,7 @@ def check_examples():
     wanted = "made 3\nnone 0 0 0\nleast 0 3 6\nwalk 0 3 7\nlarger 0 3 7\n"
     assert answers(b"make 3 0 4 6 5 0 3 7 4 0\nbounds\n").decode() == wanted
 
-    # Files of `rig`.
+    # Files of `planner`.
     day = b"make 1 10\npost 4 1 10 0 50\nsettle walk\nsave a\nmake 1 0\nload a walk\nshow\nload b walk\nload a\nsave a b\n"
     written = answers(day).decode().splitlines()
     shown = ["settled 1", "4 1 10 0 50 0 50"]

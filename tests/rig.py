@@ -1,5 +1,5 @@
 #!/usr/bin/env python3
-"""Answers as the program `rig` does, by docs/CALLS.md and docs/PAGE.md.
+"""Answers as the program `planner` does, by docs/CALLS.md and docs/PAGE.md.
 
     python3 tests/rig.py < tests/rig_day.txt
 

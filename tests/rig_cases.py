@@ -1,5 +1,5 @@
 #!/usr/bin/env python3
-"""Writes short days of commands for the program `rig`, the same every time: tests/rig_day.txt, and the answers to tests/rig_day.out.
+"""Writes short days of commands for the program `planner`, the same every time: tests/rig_day.txt, and the answers to tests/rig_day.out.
 
     python3 tests/rig_cases.py
 
