@@ -1,18 +1,19 @@
 -- What the questions of a matrix find. Assumes nothing.
-use Rattle.std.proofs.Common.{◌≡◌, ℕ, ◌+◌, ◌*◌, ◌<◌, ◌≤◌, true, false, ◌&&◌, eqb, leb, List, length, Some, None, Ok, Option, sym, refl, ap, ◌∙◌, subst, ⊎_elim, arith}
-use Rattle.std.proofs.lemmas.Bool.{cond-true, cond-false, cond_both, lt-ltb, le-ltb, leb-true, leb-false, eqb-true, eqb-false, and_parts, and_cases, cases_lt, le-leb, eq-eqb}
+use Rattle.std.proofs.Common.{◌≡◌, ℕ, ◌+◌, ◌*◌, ◌<◌, ◌≤◌, true, false, ◌&&◌, eqb, leb, List, length, Some, None, Ok, Option, Result, sym, refl, ap, ◌∙◌, subst, ⊎_elim, arith}
+use Rattle.std.proofs.lemmas.Bool.{cond-true, cond-false, cond_both, lt-ltb, le-ltb, leb-true, leb-false, eqb-true, eqb-false, and_parts, and_cases, cases_lt}
 use Rattle.matrix.specs.declared.refusals.Entry.{Entry}
 use Rattle.matrix.specs.declared.refusals.Triple.{Triple}
+use Rattle.matrix.specs.declared.refusals.MatrixRefusal.{MatrixRefusal}
 use Rattle.matrix.specs.declared.refusals.MatrixRefusal.TheVariants.{TooGreat, Triangle}
 use Rattle.matrix.specs.Matrix.{changeover, first, too_great, first_too_great, breaks, broken, first_broken, refused_or, matrix_answer, Setup, Sized, Small, Triangular, FirstTooGreat, FirstBroken, Judged}
 use Rattle.matrix.proofs.Searches.{none_before, found_first}
 
 module _ (m : ℕ) (numbers : List ℕ) where
   -- one entry
-  pub great_none : (a b : ℕ) → changeover m numbers a b ≤ 10000 → too_great m numbers a b ≡ None
+  great_none : (a b : ℕ) → changeover m numbers a b ≤ 10000 → too_great m numbers a b ≡ None
   great_none a b h = cond-false _ _ _ (le-ltb _ _ h)
 
-  pub great_some : (a b : ℕ) → 10000 < changeover m numbers a b → too_great m numbers a b ≡ Some (record { from = a; to = b; minutes = changeover m numbers a b })
+  great_some : (a b : ℕ) → 10000 < changeover m numbers a b → too_great m numbers a b ≡ Some (record { from = a; to = b; minutes = changeover m numbers a b })
   great_some a b h = cond-true _ _ _ (lt-ltb _ _ h)
 
   great_none_is : (a b : ℕ) → too_great m numbers a b ≡ None → changeover m numbers a b ≤ 10000
@@ -136,6 +137,5 @@ module _ (m : ℕ) (numbers : List ℕ) where
             (and_cases (leb 1 m) (leb m 16) f),
       ))
 
-  -- once the setups and the count are right, the searches answer
-  pub answered : Sized m → length numbers ≡ m * m → (o : Option Entry) (p : Option Triple) → first_too_great m numbers ≡ o → first_broken m numbers ≡ p → matrix_answer m numbers ≡ refused_or TooGreat o (refused_or Triangle p (Ok tt))
-  answered sized complete o p e f = rw (le-leb 1 m sized.0, le-leb m 16 sized.1, eq-eqb (length numbers) (m * m) complete, e, f)
+  pub judged_is : (r : Result (Unit {0}) MatrixRefusal) → r ≡ matrix_answer m numbers → Judged m numbers r
+  judged_is r e = subst (Judged m numbers) (sym e) judged

@@ -1,28 +1,16 @@
-use Rattle.std.proofs.Common.{◌≡◌, ℕ, ◌*◌, length, Some, None, sym, refl, ap, ◌∙◌, subst, arith}
-use Rattle.matrix.specs.Matrix.{Judged}
-use Rattle.matrix.proofs.Matrices.{judged, answered}
+use Rattle.std.proofs.Common.{Ok, Err, rules}
+use Rattle.matrix.specs.declared.refusals.MatrixRefusal.TheVariants.{TooGreat, Triangle}
+use Rattle.matrix.proofs.Matrices.{judged_is}
 use Rattle.matrix.proofs.questions.check_matrix.Goals as goal
 
-pub returns-in-Some : goal.returns-in-Some
-returns-in-Some c =
-    let m = c.args.setups in
-    let numbers = c.args.numbers.now in
-    let complete : length numbers ≡ m * m = c.if-numbers-width.false ∙ ap (λ (w : ℕ). w * w) c.from-width.ensures in
-    let is = answered m numbers (omega arith, omega arith) complete (Some c.in-Some.entry) _ (sym c.in-Some.ensures) refl in
-    record { answer = sym is; judged = subst (Judged m numbers) is (judged m numbers) }
+pub returns-in_err-rows-clause-judged : goal.returns-in_err-rows-clause-judged
+returns-in_err-rows-clause-judged c = judged_is c.args.setups c.args.numbers.now c.from_residual.result (search rules)
 
-pub returns-in-Some-first_triple_broken : goal.returns-in-Some-first_triple_broken
-returns-in-Some-first_triple_broken c =
-    let m = c.args.setups in
-    let numbers = c.args.numbers.now in
-    let complete : length numbers ≡ m * m = c.if-numbers-width.false ∙ ap (λ (w : ℕ). w * w) c.from-width.ensures in
-    let is = answered m numbers (omega arith, omega arith) complete None (Some c.in-Some-first_triple_broken.triple) (sym c.in_default.ensures) (sym c.in-Some-first_triple_broken.ensures) in
-    record { answer = sym is; judged = subst (Judged m numbers) is (judged m numbers) }
+pub returns-in-Some-clause-judged : goal.returns-in-Some-clause-judged
+returns-in-Some-clause-judged c = judged_is c.args.setups c.args.numbers.now (Err (TooGreat c.in-Some.entry)) (search rules)
 
-pub returns : goal.returns
-returns c =
-    let m = c.args.setups in
-    let numbers = c.args.numbers.now in
-    let complete : length numbers ≡ m * m = c.if-numbers-width.false ∙ ap (λ (w : ℕ). w * w) c.from-width.ensures in
-    let is = answered m numbers (omega arith, omega arith) complete None None (sym c.in_default.ensures) (sym c.in_default-first_triple_broken.ensures) in
-    record { answer = sym is; judged = subst (Judged m numbers) is (judged m numbers) }
+pub returns-in-Some-first_triple_broken-clause-judged : goal.returns-in-Some-first_triple_broken-clause-judged
+returns-in-Some-first_triple_broken-clause-judged c = judged_is c.args.setups c.args.numbers.now (Err (Triangle c.in-Some-first_triple_broken.triple)) (search rules)
+
+pub returns-clause-judged : goal.returns-clause-judged
+returns-clause-judged c = judged_is c.args.setups c.args.numbers.now (Ok tt) (search rules)
