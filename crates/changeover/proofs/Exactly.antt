@@ -3,7 +3,8 @@ use Rattle.std.proofs.Common.{◌≡◌, ℕ, zero, suc, ◌+◌, ◌*◌, ◌<�
 use Rattle.std.proofs.lemmas.Bool.{cases_eq, cond-true, lt-ltb}
 use Rattle.changeover.specs.Kinds.{least, but, least_gap, multiples, walk, shortest_walk}
 use Rattle.changeover.specs.Rules.{LeastGapOf, LeastGapRule, LeastOver, ShortestWalkRule}
-use Rattle.changeover.specs.Leasts.{least_under, least_one_of, but_same, but_other}
+use Rattle.changeover.specs.Leasts.{least_under, but_other}
+use Rattle.changeover.proofs.Leasts.{least_one_of, but_same}
 use Rattle.changeover.specs.Laws.{least_gap_under, walk_step}
 
 module _ (n : ℕ) (gap : ℕ → ℕ → ℕ) (few : n ≤ 32) (small : (i j : ℕ) → gap i j ≤ 12000) where

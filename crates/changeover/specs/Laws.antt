@@ -1,10 +1,10 @@
 -- Each kind of bound keeps the law, and its numbers are small. Assumes nothing.
-use Rattle.std.specs.Prelude.{◌≡◌, ℕ, suc, ◌+◌, ◌*◌, ◌<◌, ◌≤◌, cond, ◌≢◌, List, [], ◌∷◌, length, ◌==◌, nat_lt}
-use Rattle.std.proofs.Common.{sym, ap, ◌∙◌, mul-le-mul, suc-mul, zero-mul, zero-add, add-one, arith}
-use Rattle.std.proofs.lemmas.Bool.{cond_both, cond-false, ltb-true, ltb-false, le-ltb}
+use Rattle.std.specs.Prelude.{◌≡◌, ℕ, suc, ◌+◌, ◌*◌, ◌<◌, ◌≤◌, cond, ◌≢◌, List, [], ◌∷◌, length, nat_lt}
+use Rattle.std.proofs.Common.{sym, ap, ◌∙◌, mul-le-mul, suc-mul, zero-mul, zero-add, arith}
+use Rattle.std.proofs.lemmas.Bool.{cond_both, cond-false, ltb-true, le-ltb}
 use Rattle.changeover.specs.Rows.{Lawful, Within, Different, gaps_from, gaps_along}
-use Rattle.changeover.specs.Kinds.{larger, least, but, least_gap, multiples, walk, shortest_walk, below}
-use Rattle.changeover.specs.Leasts.{least_top, least_same, least_under, but_other}
+use Rattle.changeover.specs.Kinds.{larger, least, but, least_gap, multiples, walk, shortest_walk}
+use Rattle.changeover.specs.Leasts.{least_under, but_other}
 
 -- a number that is given below n alone
 pub below_small : (n e x top : ℕ) → (e < n → x ≤ top) → cond (nat_lt e n) x 0 ≤ top
@@ -72,26 +72,6 @@ module _ (n : ℕ) (gap : ℕ → ℕ → ℕ) where
     past = λ e h. below_past n e _ h;
     under = λ e row r. below_small n e _ _ (λ _. walk_row e row r.within r.different r.long);
   }
-
-  pub shortest_first : shortest_walk n gap 0 ≡ 0
-  shortest_first =
-      let u = below_small n 0 (least 400000 n (walk n gap 0)) 0 (λ h. least_under 400000 n (walk n gap 0) 0 h) in
-      omega arith
-
-  pub shortest_small : (e : ℕ) → shortest_walk n gap e ≤ 400000
-  shortest_small e = below_small n e _ _ (λ _. least_top 400000 n (walk n gap e))
-
-  -- one gap more
-  pub walk_more : (e j : ℕ) (w : ℕ → ℕ) → ((i : ℕ) → i < n → w i ≡ walk n gap e i) → least 400000 n (but 400000 j (λ i. w i + gap i j)) ≡ walk n gap (e + 1) j
-  walk_more e j w same =
-      rw add-one (least_same 400000 n _ _ (λ i h. ap (λ (x : ℕ). cond (i == j) 400000 (x + gap i j)) (same i h)))
-
-  -- the places, once all are written
-  pub shortest_all : (b : ℕ → ℕ) (e : ℕ) → e ≡ n → ((k : ℕ) → k < e → b k ≡ least 400000 n (walk n gap k)) → ((k : ℕ) → e ≤ k → b k ≡ 0) → (k : ℕ) → b k ≡ shortest_walk n gap k
-  shortest_all b e same below past k =
-      cond_both (nat_lt k n) _ _ (λ (y : ℕ). b k ≡ y)
-      (λ t. let lt = ltb-true k n t in below k (omega arith))
-      (λ f. let le = ltb-false k n f in past k (omega arith))
 
 pub multiples_small : (n step e : ℕ) → n ≤ 32 → step ≤ 12000 → multiples n step e ≤ 400000
 multiples_small n step e hn hs =

@@ -4,6 +4,7 @@ ghost use Rattle.std.specs.Prelude.{◌≡◌, ℕ, ◌≤◌, length, slice_ind
 mod calls;
 
 // The gaps between at most 32 jobs, 32 to a row; each is at most 12,000.
+// The number of jobs stands beside a table of fixed size: there is no heap.
 #[derive(Clone, Copy)]
 pub struct Gaps {
     jobs: usize,

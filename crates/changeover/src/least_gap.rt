@@ -9,6 +9,7 @@ ghost use Rattle.std.proofs.Common.{rules, arith};
 
 use crate::bound::{Bound, Numbers};
 use crate::gaps::Gaps;
+use crate::least::least;
 
 #[derive(Clone, Copy)]
 pub struct LeastGap;
@@ -44,24 +45,18 @@ impl Numbers for Multiples {
 fn least_from(gaps: &Gaps, i: usize) -> u32
     ensures { result ≡ least 12000 (jobs_of gaps.now) (but 12000 i (gap_of gaps.now i)) }
 {
-    let mut best = 12_000;
-    for j in 0..gaps.jobs() {
-        if j != i {
-            best = best.min(gaps.gap(i, j));
-        }
-    }
-    best
+    least(
+        gaps.jobs(),
+        12_000,
+        |j| if j == i { 12_000 } else { gaps.gap(i, j) },
+    )
 }
 
 // The least gap between two different jobs.
 fn least_of_all(gaps: &Gaps) -> u32
     ensures { result ≡ least_gap (jobs_of gaps.now) (gap_of gaps.now) }
 {
-    let mut least = 12_000;
-    for i in 0..gaps.jobs() {
-        least = least.min(least_from(gaps, i));
-    }
-    least
+    least(gaps.jobs(), 12_000, |i| least_from(gaps, i))
 }
 
 impl Bound for LeastGap {

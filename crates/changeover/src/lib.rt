@@ -4,6 +4,7 @@
 mod bound;
 mod gaps;
 mod larger;
+mod least;
 mod least_gap;
 mod no_bound;
 mod refusals;

@@ -10,6 +10,8 @@ ghost use Rattle.changeover.specs.Laws.{walk_lawful};
 
 use crate::bound::{Bound, Numbers};
 use crate::gaps::Gaps;
+use crate::least::least;
+use std::array;
 
 #[derive(Clone, Copy)]
 pub struct ShortestWalk;
@@ -33,55 +35,53 @@ impl Numbers for Listed {
     ghost past = { λ b e h. get_or_past b.places e 0 (omega arith) };
 
     fn number(&self, e: usize) -> u32 {
-        if e < 32 { self.places[e] } else { 0 }
+        self.places.get(e).copied().unwrap_or(0)
     }
 }
 
-// A walk into job i, and its gap on to job j.
-fn through(gaps: &Gaps, shorter: &[u32; 32], i: usize, j: usize) -> u32
-    requires inside { i < 32 }
-    requires small { (i : ℕ) → slice_index shorter.now i ≤ 400000 }
-    ensures { result ≡ slice_index shorter.now i + gap_of gaps.now i j }
-{
-    shorter[i] + gaps.gap(i, j)
+// The least that a walk of so many gaps into each job adds up to.
+#[derive(Clone, Copy)]
+struct Walks {
+    into: [u32; 32],
+    ghost long: { length into ≡ 32 },
+    ghost small: { (j : ℕ) → slice_index into j ≤ 400000 },
 }
 
-// The least that a walk into job j adds up to, from the walks that are one gap shorter.
-fn walk_into(gaps: &Gaps, shorter: &[u32; 32], j: usize) -> u32
-    requires { (i : ℕ) → slice_index shorter.now i ≤ 400000 }
-    ensures { result ≡ least 400000 (jobs_of gaps.now) (but 400000 j (λ i. slice_index shorter.now i + gap_of gaps.now i j)) }
-{
-    let mut best = 400_000;
-    for i in 0..gaps.jobs() {
-        if i != j {
-            best = best.min(through(gaps, shorter, i, j));
+impl Walks {
+    // The least that a walk into job j adds up to that is one gap longer.
+    fn longer_into(&self, gaps: &Gaps, j: usize) -> u32
+        ensures { result ≡ least 400000 (jobs_of gaps.now) (but 400000 j (λ i. slice_index self.now.into i + gap_of gaps.now i j)) }
+    {
+        least(
+            gaps.jobs(),
+            400_000,
+            |i| if i == j {
+                400_000
+            } else {
+                self.into[i] + gaps.gap(i, j)
+            },
+        )
+    }
+
+    // The walks that are one gap longer.
+    fn longer(&self, gaps: &Gaps) -> Walks
+        ensures { (j : ℕ) → j < jobs_of gaps.now → slice_index result.into j ≡ least 400000 (jobs_of gaps.now) (but 400000 j (λ i. slice_index self.now.into i + gap_of gaps.now i j)) }
+    {
+        Walks {
+            into: array::from_fn(|j| if j < gaps.jobs() {
+                self.longer_into(gaps, j)
+            } else {
+                0
+            }),
         }
     }
-    best
-}
 
-// The walks into each job that are one gap longer.
-fn longer(gaps: &Gaps, shorter: &[u32; 32]) -> [u32; 32]
-    requires { (i : ℕ) → slice_index shorter.now i ≤ 400000 }
-    ensures small { (j : ℕ) → slice_index result j ≤ 400000 }
-    ensures each { (j : ℕ) → j < jobs_of gaps.now → slice_index result j ≡ least 400000 (jobs_of gaps.now) (but 400000 j (λ i. slice_index shorter.now i + gap_of gaps.now i j)) }
-{
-    let mut walks = [0; 32];
-    for j in 0..gaps.jobs() {
-        walks[j] = walk_into(gaps, shorter, j);
+    // The least of the walks into each job.
+    fn shortest(&self, gaps: &Gaps) -> u32
+        ensures { result ≡ least 400000 (jobs_of gaps.now) (λ j. slice_index self.now.into j) }
+    {
+        least(gaps.jobs(), 400_000, |j| self.into[j])
     }
-    walks
-}
-
-// The least of the walks into each job.
-fn shortest(gaps: &Gaps, walks: &[u32; 32]) -> u32
-    ensures { result ≡ least 400000 (jobs_of gaps.now) (λ j. slice_index walks.now j) }
-{
-    let mut best = 400_000;
-    for j in 0..gaps.jobs() {
-        best = best.min(walks[j]);
-    }
-    best
 }
 
 impl Bound for ShortestWalk {
@@ -97,10 +97,10 @@ impl Bound for ShortestWalk {
         ensures rule { ShortestWalkRule (jobs_of gaps.now) (gap_of gaps.now) (λ e. slice_index result.places e) }
     {
         let mut places = [0; 32];
-        let mut walks = [0; 32];
-        for e in 0..gaps.jobs() {
-            places[e] = shortest(gaps, &walks);
-            walks = longer(gaps, &walks);
+        let mut walks = Walks { into: [0; 32] };
+        for place in &mut places[..gaps.jobs()] {
+            *place = walks.shortest(gaps);
+            walks = walks.longer(gaps);
         }
         Listed { places }
     }

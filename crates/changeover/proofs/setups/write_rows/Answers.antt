@@ -1,5 +1,4 @@
-use Rattle.std.proofs.Common.{get_or, refl, ◌∙◌, arith}
-use Rattle.std.proofs.lemmas.Nat.{mul-add-lt}
+use Rattle.std.proofs.Common.{get_or, refl, ◌∙◌}
 use Rattle.changeover.specs.Table.{jobs_of, gap_of}
 use Rattle.changeover.proofs.Tables.{rows_more}
 use Rattle.changeover.proofs.setups.write_rows.Goals as goal
@@ -12,11 +11,3 @@ loop-k-preserved c =
       c.set_gap.ensures.jobs ∙ c.loop-k.invariant.0,
       rows_more c.args.width (jobs_of gaps) k (get_or numbers k 0) numbers (gap_of gaps) (gap_of c.set_gap.new.self) c.loop-k.invariant.0 refl c.set_gap.ensures.gaps c.loop-k.invariant.1,
     )
-
-pub returns : goal.returns
-returns c =
-    let m = c.args.width in
-    record {
-      jobs = c.loop-k.invariant.0;
-      each = λ i j hi hj. c.loop-k.invariant.1 i j hi hj (omega (arith, mul-add-lt i m j m hi hj));
-    }

@@ -1,51 +1,62 @@
-use Rattle.std.proofs.Common.{◌≡◌, ℕ, ◌+◌, ◌<◌, ◌≤◌, length, get_or, sym, ◌∙◌, subst, arith, length-set}
+use Rattle.std.proofs.Common.{◌≡◌, ℕ, ◌+◌, ◌<◌, List, drop, replicate, sym, ◌∙◌, subst, arith, length-drop, length-append, length-set}
 use mathlib.Core.Path.{fun_ext}
-use Rattle.changeover.specs.Kinds.{least, walk, shortest_walk}
+use Rattle.std.proofs.lemmas.List.{length-take}
+use Rattle.changeover.specs.Kinds.{least, walk}
 use Rattle.changeover.specs.Rows.{Lawful}
 use Rattle.changeover.specs.Rules.{ShortestWalkRule}
 use Rattle.changeover.specs.Table.{gap_of, jobs_of}
-use Rattle.changeover.specs.Leasts.{least_same}
-use Rattle.changeover.specs.Laws.{walk_lawful, walk_more, shortest_all, shortest_first, shortest_small}
+use Rattle.changeover.specs.Laws.{walk_lawful}
 use Rattle.changeover.proofs.Exactly.{shortest_walk_rule}
-use Rattle.changeover.proofs.Tables.{gap_small}
+use Rattle.changeover.proofs.Leasts.{least_same}
 use Rattle.changeover.proofs.Places.{zero_at, each_set}
+use Rattle.changeover.proofs.Tables.{gap_small}
+use Rattle.changeover.proofs.Walks.{walk_more, shortest_then_zeros, shortest_first, shortest_small}
 use Rattle.changeover.proofs.shortest_walk.ShortestWalkBound.work_out.Goals as goal
 
-pub loop-e-init : goal.loop-e-init
-loop-e-init c = (omega arith, (λ k h. absurd (omega arith)), (λ k _. zero_at 32 k), (λ j. omega (arith, zero_at 32 j)), λ j _. zero_at 32 j)
+pub loop-place-init : goal.loop-place-init
+loop-place-init c = (omega arith, (λ j. omega (arith, zero_at 32 j)), (λ j _. zero_at 32 j), (λ k h. absurd (omega arith)), omega (arith, length-take c.jobs.result (replicate {A = ℕ} 32 0)))
 
-pub loop-e-preserved : goal.loop-e-preserved
-loop-e-preserved c =
+pub invariant_of-walks : goal.invariant_of-walks
+invariant_of-walks c = record { long = c.loop-place.invariant.0; small = c.loop-place.invariant.1 }
+
+pub loop-place-preserved : goal.loop-place-preserved
+loop-place-preserved c =
     let n = jobs_of c.args.gaps.now in
     let gap = gap_of c.args.gaps.now in
-    let xs = c.loop-e.places in
-    let e = c.loop-e.e in
-    let v = c.shortest.result in
-    let lt : e < length xs = omega arith in (
-      simp length-set c.loop-e.invariant.0,
-      each_set (λ k y. k < e + 1 → y ≡ least 400000 n (walk n gap k)) xs e v lt (λ k ne h. c.loop-e.invariant.1 k (omega arith)) (λ _. c.shortest.ensures ∙ least_same 400000 n _ _ c.loop-e.invariant.4),
-      each_set (λ k y. e + 1 ≤ k → y ≡ 0) xs e v lt (λ k ne h. c.loop-e.invariant.2 k (omega arith)) (λ h. absurd (omega arith)),
-      c.longer-walks.ensures.small,
-      λ j h. c.longer-walks.ensures.each j h ∙ walk_more n gap e j (λ i. get_or c.loop-e.walks i 0) c.loop-e.invariant.4,
+    let e = c.loop-place.place-index in (
+      c.longer-walks.result.long,
+      c.longer-walks.result.small,
+      λ j h. c.longer-walks.ensures j h ∙ walk_more n gap e j _ c.loop-place.invariant.2,
+      each_set (λ k y. k < e + 1 → y ≡ least 400000 n (walk n gap k)) c.loop-place.place-items e c.shortest.result (omega arith) (λ k ne h. c.loop-place.invariant.3 k (omega arith)) (λ _. c.shortest.ensures ∙ least_same 400000 n _ _ c.loop-place.invariant.2),
+      simp length-set c.loop-place.invariant.4,
     )
+
+pub returns-clause-numbers : goal.returns-clause-numbers
+returns-clause-numbers c =
+    let gaps = c.args.gaps.now in
+    shortest_then_zeros (jobs_of gaps) (gap_of gaps) c.loop-place.place-items c.jobs.result c.jobs.ensures.value c.loop-place.invariant.4 (λ k h. c.loop-place.invariant.3 k (omega arith))
 
 pub invariant_of-result : goal.invariant_of-result
 invariant_of-result c =
-    let n = jobs_of c.args.gaps.now in
-    let gap = gap_of c.args.gaps.now in
-    let all = shortest_all n gap (λ k. get_or c.loop-e.places k 0) c.loop-e.e (omega arith) c.loop-e.invariant.1 c.loop-e.invariant.2 in
-    record { long = c.loop-e.invariant.0; first = all 0 ∙ shortest_first n gap; small = λ e. omega (arith, all e, shortest_small n gap e) }
-
-pub returns : goal.returns
-returns c =
     let gaps = c.args.gaps.now in
     let n = jobs_of gaps in
-    let gap = gap_of gaps in
-    let b : ℕ → ℕ = λ k. get_or c.loop-e.places k 0 in
-    let all = shortest_all n gap b c.loop-e.e (omega arith) c.loop-e.invariant.1 c.loop-e.invariant.2 in
-    let same : shortest_walk n gap ≡ b = sym (fun_ext all) in
+    let xs = c.loop-place.place-items in
+    let rest : List ℕ = drop c.jobs.result (replicate 32 0) in
+    let all = shortest_then_zeros n (gap_of gaps) xs c.jobs.result c.jobs.ensures.value c.loop-place.invariant.4 (λ k h. c.loop-place.invariant.3 k (omega arith)) in
     record {
-      numbers = all;
-      lawful = subst (Lawful n gap) same (walk_lawful n gap);
-      rule = subst (ShortestWalkRule n gap) same (shortest_walk_rule n gap gaps.few (gap_small gaps));
+      long = omega (arith, length-append xs rest, length-drop c.jobs.result (replicate {A = ℕ} 32 0), c.loop-place.invariant.4);
+      first = all 0 ∙ shortest_first n (gap_of gaps);
+      small = λ e. omega (arith, all e, shortest_small n (gap_of gaps) e);
     }
+
+pub returns-clause-lawful : goal.returns-clause-lawful
+returns-clause-lawful c =
+    let gaps = c.args.gaps.now in
+    let n = jobs_of gaps in
+    subst (Lawful n (gap_of gaps)) (sym (fun_ext (returns-clause-numbers c))) (walk_lawful n (gap_of gaps))
+
+pub returns-clause-rule : goal.returns-clause-rule
+returns-clause-rule c =
+    let gaps = c.args.gaps.now in
+    let n = jobs_of gaps in
+    subst (ShortestWalkRule n (gap_of gaps)) (sym (fun_ext (returns-clause-numbers c))) (shortest_walk_rule n (gap_of gaps) gaps.few (gap_small gaps))
