@@ -1,4 +1,4 @@
-// What the calls of this crate refuse, and the numbers of the refusals.
+// What the calls of this crate refuse, and the numbers of the refusals, which are given.
 ghost use Rattle.std.specs.Prelude.{◌≡◌};
 ghost use Rattle.theta.specs.Refusals.{leaf_number};
 

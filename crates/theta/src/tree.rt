@@ -1,4 +1,5 @@
 // The calls on a tree: 63 nodes, with the root at 0, the children of node i at 2i + 1 and 2i + 2, and the leaf of place p at 31 + p.
+// The caller lends the nodes and keeps them, so what the calls say of them stands in the clauses of each call, and in no type.
 ghost use Rattle.std.specs.Prelude.{◌≡◌, ℕ, ◌+◌, ◌<◌, ◌≤◌, eqb, length, if◌then◌else◌, Ok, Err, slice_index_or};
 ghost use Rattle.theta.specs.Refusals.{sized, seated};
 ghost use Rattle.theta.specs.Tree.{rejoined, replaced, stepped, emptied, Elsewhere};
@@ -16,13 +17,21 @@ pub struct StillLifted<N> {
     pub refusal: TreeRefusal,
 }
 
-// Whether so many nodes are a tree, and this is a place of it.
-fn check_seat(many: usize, place: usize) -> Result<(), TreeRefusal>
-    ensures { result ≡ seated many place tt }
+// Whether so many nodes are a tree.
+fn check_size(many: usize) -> Result<(), TreeRefusal>
+    ensures { result ≡ sized many tt }
 {
     if many != 63 {
         return Err(TreeRefusal::Size(many));
     }
+    Ok(())
+}
+
+// Whether so many nodes are a tree, and this is a place of it.
+fn check_seat(many: usize, place: usize) -> Result<(), TreeRefusal>
+    ensures { result ≡ seated many place tt }
+{
+    check_size(many)?;
     if place > 31 {
         return Err(TreeRefusal::Place(place));
     }
@@ -33,22 +42,14 @@ fn check_seat(many: usize, place: usize) -> Result<(), TreeRefusal>
 fn node_at<N: Node + Copy>(nodes: &[N], i: usize) -> N
     ensures { result ≡ slice_index_or nodes.now i N.none }
 {
-    if i < nodes.len() {
-        nodes[i]
-    } else {
-        N::empty()
-    }
+    nodes.get(i).copied().unwrap_or(N::empty())
 }
 
 // What stands at a place: the empty node where there is no such place.
 fn stands_at<N: Node + Copy>(nodes: &[N], place: usize) -> N
     ensures { result ≡ slice_index_or nodes.now (31 + place) N.none }
 {
-    if place < nodes.len().saturating_sub(31) {
-        nodes[31 + place]
-    } else {
-        N::empty()
-    }
+    node_at(nodes, place.saturating_add(31))
 }
 
 // Node i becomes the join of its children.
@@ -63,6 +64,7 @@ fn rejoin<N: Node + Copy, W: Numbers>(b: &W, nodes: &mut [N], i: usize)
 }
 
 // The leaf of a place becomes x, and the five nodes above it follow: how many are written.
+// A climb from child to parent walks neither a slice nor a range: its test says where it ends.
 fn replace<N: Node + Copy, W: Numbers>(b: &W, nodes: &mut [N], place: usize, x: N) -> u32
     requires size { length nodes.old ≡ 63 }
     requires inner { place ≤ 31 }
@@ -97,16 +99,13 @@ fn step<N: Node + Copy, W: Numbers>(
     Ok(replace(b, nodes, place, x))
 }
 
-// Makes every node empty.
+// Makes every node empty. `fill` clones, and of a clone a kind of node promises nothing: so each node is written.
 pub fn clear<N: Node + Copy>(nodes: &mut [N]) -> Result<(), TreeRefusal>
     ensures answer { result ≡ sized (length nodes.old) tt }
     ensures after { nodes.new ≡ emptied N.none nodes.old }
     ensures fresh { length nodes.old ≡ 63 → (b : ℕ → ℕ) → b 0 ≡ 0 → (turned : N → N) → Begins N.none N.placed turned (N.joined b) nodes.new }
 {
-    let many = nodes.len();
-    if many != 63 {
-        return Err(TreeRefusal::Size(many));
-    }
+    check_size(nodes.len())?;
     for x in nodes.iter_mut() {
         *x = N::empty();
     }
@@ -198,10 +197,7 @@ pub fn set_back<N: Node + Copy, W: Numbers>(
 pub fn root<N: Node + Copy>(nodes: &[N]) -> Result<N, TreeRefusal>
     ensures { result ≡ sized (length nodes.now) (slice_index_or nodes.now 0 N.none) }
 {
-    let many = nodes.len();
-    if many != 63 {
-        return Err(TreeRefusal::Size(many));
-    }
+    check_size(nodes.len())?;
     Ok(nodes[0])
 }
 
