@@ -1,10 +1,10 @@
 // The node of white and grey leaves.
 ghost use Rattle.std.specs.Prelude.{◌≡◌, ◌+◌};
-ghost use Rattle.theta_nodes.specs.Grey.{same, only, lower, told, all_white, all_grey, empty_grey, white_leaf_in, grey_leaf, turned_grey, grey_placed, across, along, grey_total, grey_count, heavier, blamed, grey_join, GreySound};
+ghost use Rattle.theta_nodes.specs.Grey.{only, lower, all_white, all_grey, empty_grey, white_leaf_in, grey_leaf, turned_grey, grey_placed, grey_total, grey_count, heavier, blamed, grey_join, GreySound};
 ghost use borrow.Author.Rules.{rules};
-ghost use Rattle.theta_nodes.specs.White.{white_join};
+ghost use Rattle.theta_nodes.specs.White.{later, white_join};
 
-use crate::white::{White, after_both, capped_sum, later_of};
+use crate::white::{White, across, capped_sum};
 use changeover::Numbers;
 use theta::{LeafRefusal, Node, ThetaLambdaNode, ThetaNode};
 
@@ -42,53 +42,25 @@ fn all_grey(leaf: White) -> Grey
     }
 }
 
-// Whether two times are the same.
-fn is_same(a: Option<u32>, b: Option<u32>) -> bool
-    ensures { result ≡ same a b }
-{
-    match (a, b) {
-        (Some(x), Some(y)) => x == y,
-        (None, None) => true,
-        _ => false,
-    }
-}
-
 // The place, where the test holds.
 fn only_if(test: bool, place: Option<usize>) -> Option<usize>
     ensures { result ≡ only test place }
 {
-    if test { place } else { None }
+    place.filter(|_| test)
 }
 
-// The lower of two places, or the one that there is.
+// The lower of two places, or the one that there is; `min` alone would take none for the lower.
 fn lower_of(a: Option<usize>, b: Option<usize>) -> Option<usize>
     ensures { result ≡ lower a b }
 {
-    match (a, b) {
-        (Some(x), Some(y)) => Some(x.min(y)),
-        (Some(x), None) => Some(x),
-        (None, y) => y,
-    }
-}
-
-// This place, where there was one.
-fn told_place(place: usize, was: Option<usize>) -> Option<usize>
-    ensures { result ≡ told place was }
-{
-    match was {
-        Some(_) => Some(place),
-        None => None,
-    }
+    a.zip(b).map(|(x, y)| x.min(y)).or(a).or(b)
 }
 
 // The count, and one more where a grey leaf lies below.
 fn grey_count(count: u32, left: Option<usize>, right: Option<usize>) -> u32
     ensures { result ≡ grey_count count left right }
 {
-    match (left, right) {
-        (None, None) => count,
-        _ => capped_sum(count, 1),
-    }
+    left.or(right).map_or(count, |_| capped_sum(count, 1))
 }
 
 // The sum of two numbers, which always fits.
@@ -104,32 +76,7 @@ fn heavier_of(l: &Grey, r: &Grey) -> Option<usize>
 {
     let left = wide_sum(l.grey.total, r.white.total);
     let right = wide_sum(l.white.total, r.grey.total);
-    match l.heaviest {
-        Some(place) if right <= left => Some(place),
-        _ => r.heaviest,
-    }
-}
-
-// The finish where a grey leaf of the right part counts, after the white leaves of the left one.
-fn by_right<W: Numbers>(b: &W, l: &Grey, r: &Grey) -> Option<u32>
-    ensures { result ≡ across (W.Numbers.at b.now) l.now r.now }
-{
-    after_both(
-        l.white.finish,
-        r.grey.total,
-        b.number(r.grey.count as usize),
-    )
-}
-
-// The finish where a grey leaf of the left part counts.
-fn by_left<W: Numbers>(b: &W, l: &Grey, r: &Grey) -> Option<u32>
-    ensures { result ≡ along (W.Numbers.at b.now) l.now r.now }
-{
-    after_both(
-        l.grey.finish,
-        r.white.total,
-        b.number(r.white.count as usize),
-    )
+    l.heaviest.filter(|_| right <= left).or(r.heaviest)
 }
 
 // The greater total with one grey leaf, of the left part or of the right one.
@@ -138,6 +85,13 @@ fn heavier_total(l: &Grey, r: &Grey) -> u32
 {
     let left = capped_sum(l.grey.total, r.white.total);
     left.max(capped_sum(l.white.total, r.grey.total))
+}
+
+// The latest of three times; none is below every time.
+fn latest(a: Option<u32>, b: Option<u32>, c: Option<u32>) -> Option<u32>
+    ensures { result ≡ later (later a b) c }
+{
+    a.max(b).max(c)
 }
 
 // Whose doing a finish is: white is e, all is e', left and right are e' by a grey leaf of that part.
@@ -151,15 +105,15 @@ fn blame(
 ) -> Option<usize>
     ensures { result ≡ blamed white all left right l.now r.now }
 {
-    if is_same(all, white) {
+    if all == white {
         return None;
     }
-    if is_same(left, all) {
+    if left == all {
         return l.responsible;
     }
     lower_of(
-        only_if(is_same(r.grey.finish, all), r.responsible),
-        only_if(is_same(right, all), r.heaviest),
+        only_if(r.grey.finish == all, r.responsible),
+        only_if(right == all, r.heaviest),
     )
 }
 
@@ -186,11 +140,12 @@ impl Node for Grey {
         all_white(<White as Node>::empty())
     }
 
+    #[tactic(auto, unfolding(crate::specs::Grey::grey_join))]
     fn join<W: Numbers>(b: &W, l: &Grey, r: &Grey) -> Grey {
         let white = <White as Node>::join(b, &l.white, &r.white);
-        let right = by_right(b, l, r);
-        let left = by_left(b, l, r);
-        let finish = later_of(later_of(r.grey.finish, right), left);
+        let right = across(b, &l.white, &r.grey);
+        let left = across(b, &l.grey, &r.white);
+        let finish = latest(r.grey.finish, right, left);
         let grey = White {
             total: heavier_total(l, r),
             count: grey_count(white.count, l.heaviest, r.heaviest),
@@ -208,8 +163,8 @@ impl Node for Grey {
         Grey {
             white: self.white,
             grey: self.grey,
-            responsible: told_place(place, self.responsible),
-            heaviest: told_place(place, self.heaviest),
+            responsible: self.responsible.map(|_| place),
+            heaviest: self.heaviest.map(|_| place),
         }
     }
 }
@@ -242,9 +197,10 @@ impl ThetaLambdaNode for Grey {
     }
 
     fn greyed(self) -> Grey {
-        match (self.white.finish, self.heaviest) {
-            (Some(_), None) if self.white.count == 1 => all_grey(self.white),
-            _ => self,
+        if self.white.count == 1 && self.white.finish.is_some() && self.heaviest.is_none() {
+            all_grey(self.white)
+        } else {
+            self
         }
     }
 

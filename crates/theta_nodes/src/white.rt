@@ -1,6 +1,6 @@
 // The node of white leaves.
 ghost use Rattle.std.specs.Prelude.{◌≡◌, ◌+◌};
-ghost use Rattle.theta_nodes.specs.White.{capped, later, after, empty_white, white_leaf, white_join, Sound};
+ghost use Rattle.theta_nodes.specs.White.{capped, after, empty_white, white_leaf, white_join, Sound};
 ghost use borrow.Author.Rules.{rules};
 
 use changeover::Numbers;
@@ -24,32 +24,12 @@ pub(crate) fn capped_sum(a: u32, b: u32) -> u32
     a.saturating_add(b).min(TOP)
 }
 
-// The later of two times; none is below every time.
-pub(crate) fn later_of(a: Option<u32>, b: Option<u32>) -> Option<u32>
-    ensures { result ≡ later a b }
-{
-    match (a, b) {
-        (Some(x), Some(y)) => Some(x.max(y)),
-        (Some(x), None) => Some(x),
-        (None, y) => y,
-    }
-}
-
-// A time and two lengths more; none stays none.
-pub(crate) fn after_both(time: Option<u32>, total: u32, extra: u32) -> Option<u32>
-    ensures { result ≡ after time (total + extra) }
-{
-    match time {
-        Some(t) => Some(capped_sum(t, total.saturating_add(extra))),
-        None => None,
-    }
-}
-
-// The left part's finish, and the right part with its number after it.
-fn across<W: Numbers>(b: &W, l: &White, r: &White) -> Option<u32>
+// The left part's finish, and the right part with its number after it; none stays none.
+pub(crate) fn across<W: Numbers>(b: &W, l: &White, r: &White) -> Option<u32>
     ensures { result ≡ after l.now.finish (r.now.total + W.Numbers.at b.now r.now.count) }
 {
-    after_both(l.finish, r.total, b.number(r.count as usize))
+    let after = r.total.saturating_add(b.number(r.count as usize));
+    l.finish.map(|time| capped_sum(time, after))
 }
 
 impl Node for White {
@@ -79,11 +59,12 @@ impl Node for White {
         }
     }
 
+    #[tactic(auto, unfolding(crate::specs::White::white_join))]
     fn join<W: Numbers>(b: &W, l: &White, r: &White) -> White {
         White {
             total: capped_sum(l.total, r.total),
             count: capped_sum(l.count, r.count),
-            finish: later_of(r.finish, across(b, l, r)),
+            finish: r.finish.max(across(b, l, r)),
         }
     }
 
