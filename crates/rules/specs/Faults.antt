@@ -10,6 +10,7 @@ use Rattle.rules.specs.declared.faults.ChainFault.{ChainFault}
 use Rattle.rules.specs.declared.faults.ChainFault.TheVariants.{Link, Job}
 use Rattle.rules.specs.declared.faults.PageFault.{PageFault}
 use Rattle.rules.specs.declared.faults.PageFault.TheVariants.{Size, Version, Matrix, Status, Chain, Stray, Unsettled}
+use Rattle.rules.specs.declared.sheet.UnknownStatus.{UnknownStatus}
 use Rattle.rules.specs.Refusals.{job_number}
 
 -- a job's fault as the chain's, and the chain's as the page's
@@ -22,6 +23,10 @@ in_page fault = Chain fault
 -- a refused matrix as the page's
 abbrev pub of_matrix : MatrixRefusal → PageFault
 of_matrix refusal = Matrix refusal
+
+-- a status that there is not, as the page's
+abbrev pub of_status : UnknownStatus → PageFault
+of_status unknown = Status unknown.0
 
 -- where the record of a card begins
 abbrev pub record_start : ℕ → ℕ
@@ -36,7 +41,7 @@ abbrev pub field_offset : JobRefusal → ℕ
 field_offset (Setup setup) = 2
 field_offset (Duration minutes) = 4
 field_offset (LateEnd late) = 12
-field_offset (Room early late) = 8
+field_offset (Room window) = 8
 
 -- of the matrix: the setups, the first M too great, and M(a, b) of the first triple a, b, c
 abbrev pub matrix_byte : MatrixRefusal → ℕ

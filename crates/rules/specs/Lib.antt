@@ -13,3 +13,4 @@ pub mod Sounds
 pub mod Faults
 pub mod Pages
 pub mod Causes
+pub mod Texts

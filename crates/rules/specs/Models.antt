@@ -51,7 +51,7 @@ reopened B = record { book = B; held = B.posted; status = Open; rounds = 0 }
 -- Question 11: is the early end at most the late end, and late less early at least the duration?
 abbrev pub room_answer : ℕ → Window → Result (Unit {0}) JobRefusal
 room_answer duration w =
-    cond (nat_le w.early w.late && nat_le duration (w.late - w.early)) (Ok tt) (Err (Room w.early w.late))
+    cond (nat_le w.early w.late && nat_le duration (w.late - w.early)) (Ok tt) (Err (Room w))
 
 -- Questions 8 to 11 of a job: a setup from 1 to m, a duration from 1 to 100,000, a late end of at most H, room
 abbrev pub job_answer : ℕ → Job → Window → Result (Unit {0}) JobRefusal
@@ -87,7 +87,7 @@ abbrev pub narrow_answer : Book → ℕ → Window → Result (Unit {0}) CardRef
 narrow_answer B card w =
     cond (is_card card)
     (cond (member card B.chain)
-    (cond (inside w (posted_on B card)) (on_its_card (room_answer (job_on B card).duration w)) (Err (Outside w.early w.late)))
+    (cond (inside w (posted_on B card)) (on_its_card (room_answer (job_on B card).duration w)) (Err (Outside w)))
     (Err (Absent card)))
     (Err (Card card))
 
@@ -165,10 +165,9 @@ abbrev pub named_cause : (ℕ → ℕ) → Option Cause → Option Cause
 named_cause card None = None
 named_cause card (Some c) = Some (record { overload = named card c.overload; side = c.side })
 
--- what settle answers: status, rounds and cause
+-- what settle answers: rounds and cause; the status is overloaded where there is a cause
 abbrev pub settle_answer : Meaning → Book → Settlement
-settle_answer f B =
-    let O = outcome f B in record { status = status_of O.cause; rounds = O.rounds; cause = named_cause (card_at B) O.cause }
+settle_answer f B = let O = outcome f B in record { rounds = O.rounds; cause = named_cause (card_at B) O.cause }
 
 -- what look answers: both windows and the status
 abbrev pub look_answer : Model → ℕ → Result View CardRefusal

@@ -11,6 +11,7 @@ use Rattle.rules.specs.declared.faults.PageFault.TheVariants.{Size, Version, Mat
 use Rattle.rules.specs.declared.sheet.Job.{Job}
 use Rattle.rules.specs.declared.sheet.Window.{Window}
 use Rattle.rules.specs.declared.sheet.Status as status
+use Rattle.rules.specs.declared.sheet.UnknownStatus.{UnknownStatus}
 use Rattle.rules.specs.declared.sheet.Status.TheVariants.{Open, Settled, Overloaded}
 use Rattle.rules.specs.Faults.{in_chain, in_page, record_start}
 use Rattle.rules.specs.Cards.{member, is_card}
@@ -32,6 +33,11 @@ abbrev pub status_number : status.Status → ℕ
 status_number Open = 0
 status_number Settled = 1
 status_number Overloaded = 2
+
+-- the status that has a number, where there is one
+abbrev pub Numbered : ℕ → Result status.Status UnknownStatus → Type 0
+Numbered n (Ok s) = status_number s ≡ n
+Numbered n (Err unknown) = (unknown.0 ≡ n) × (2 < n)
 
 -- the first card of a chain, 0 where there is none
 abbrev pub first_of : List ℕ → ℕ

@@ -10,14 +10,14 @@ abbrev pub job_number : JobRefusal → ℕ
 job_number (Setup setup) = 8
 job_number (Duration minutes) = 9
 job_number (LateEnd late) = 10
-job_number (Room early late) = 11
+job_number (Room window) = 11
 
 -- of a call that names a card
 abbrev pub card_number : CardRefusal → ℕ
 card_number (Card card) = 5
 card_number (Taken card) = 6
 card_number (Absent card) = 7
-card_number (Outside early late) = 12
+card_number (Outside window) = 12
 card_number (Job refusal) = job_number refusal
 
 -- what is wrong with a job, as the call on its card says it

@@ -1,9 +1,13 @@
 // Why a page is not loaded: the first question that has the answer "no", and where on the page.
-ghost use Rattle.std.specs.Prelude.{◌≡◌};
-ghost use Rattle.rules.specs.Faults.{in_chain, in_page, of_matrix, fault_number, fault_card, fault_byte, matrix_byte, chain_number, chain_card, chain_byte, field_offset, record_start};
+// The numbers of the questions are given, and so is 0 for what stands on no card.
+ghost use Rattle.std.specs.Prelude.{◌≡◌, Some};
+ghost use Rattle.rules.specs.Faults.{in_chain, in_page, of_matrix, fault_number, fault_card, fault_byte, matrix_byte, chain_number, chain_card, chain_byte, field_offset, record_start, of_status};
+ghost use Rattle.rules.specs.Texts.{fault_text};
 
 use crate::refusals::JobRefusal;
+use crate::sheet::UnknownStatus;
 use matrix::MatrixRefusal;
+use std::fmt;
 
 // What is wrong with the job on a card.
 #[derive(Clone, Copy)]
@@ -56,6 +60,14 @@ impl From<MatrixRefusal> for PageFault {
     }
 }
 
+impl From<UnknownStatus> for PageFault {
+    ghost from_gives = { λ e r. r ≡ of_status e };
+
+    fn from(unknown: UnknownStatus) -> PageFault {
+        PageFault::Status(unknown.0)
+    }
+}
+
 impl From<ChainFault> for PageFault {
     ghost from_gives = { λ e r. r ≡ in_page e };
 
@@ -79,7 +91,7 @@ fn field_offset(refusal: JobRefusal) -> usize
         JobRefusal::Setup(_) => 2,
         JobRefusal::Duration(_) => 4,
         JobRefusal::LateEnd(_) => 12,
-        JobRefusal::Room(_, _) => 8,
+        JobRefusal::Room(_) => 8,
     }
 }
 
@@ -166,5 +178,17 @@ impl PageFault {
             PageFault::Chain(fault) => fault.byte(),
             PageFault::Stray(byte) => byte,
         }
+    }
+}
+
+// Number, card and byte.
+impl fmt::Display for PageFault {
+    ghost output = { λ fault. Some (fault_text fault) };
+
+    fn fmt<W: fmt::Write>(&self, f: &mut fmt::Formatter<W>) -> fmt::Result {
+        let number = self.number();
+        let card = self.card();
+        let byte = self.byte();
+        write!(f, "{number} {card} {byte}")
     }
 }

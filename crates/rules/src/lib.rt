@@ -12,32 +12,24 @@ mod sheet;
 pub use faults::{ChainFault, JobFault, PageFault};
 pub use outcome::{Cause, Overload, Side};
 pub use refusals::{CardRefusal, JobRefusal};
-pub use sheet::{Job, Settlement, Status, View, Window};
+pub use sheet::{Job, Settlement, Status, UnknownStatus, View, Window};
 
 // States that every rule keeps every possible plan, and that an overload means that there is none.
-pub fn rules_hold() -> u8
+pub fn rules_hold()
     ensures { RulesAlwaysHold }
-{
-    0
-}
+{}
 
 // States that turning a face keeps limits, plans, separation and the law.
-pub fn turning_holds() -> u8
+pub fn turning_holds()
     ensures { TurningAlwaysHolds }
-{
-    0
-}
+{}
 
 // States what settling promises of every job book.
-pub fn settling_holds() -> u8
+pub fn settling_holds()
     ensures { SettlingAlwaysHolds }
-{
-    0
-}
+{}
 
 // States the promises after every list of calls on a sheet that was made.
-pub fn promises_kept() -> u8
+pub fn promises_kept()
     ensures { PromisesKept }
-{
-    0
-}
+{}

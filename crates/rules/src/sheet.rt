@@ -1,8 +1,14 @@
 // What stands on a sheet, and what is told of it.
+ghost use Rattle.std.specs.Prelude.{◌≡◌, Some};
+ghost use Rattle.rules.specs.Models.{status_of};
+ghost use Rattle.rules.specs.Pages.{status_number, Numbered};
+ghost use Rattle.rules.specs.Texts.{status_text, window_text, view_text, settlement_text};
+
 use crate::outcome::Cause;
+use std::fmt;
 
 // From when to when a job may run.
-#[derive(Clone, Copy)]
+#[derive(Clone, Copy, PartialEq, Eq)]
 pub struct Window {
     pub early: u32,
     pub late: u32,
@@ -16,7 +22,7 @@ pub struct Job {
 }
 
 // What is known of the windows that a sheet holds.
-#[derive(Clone, Copy)]
+#[derive(Clone, Copy, PartialEq, Eq)]
 pub enum Status {
     // As posted.
     Open,
@@ -37,7 +43,99 @@ pub struct View {
 // How settling a sheet ended: the rounds begun, and the cause where it is overloaded, which names its jobs by card.
 #[derive(Clone, Copy)]
 pub struct Settlement {
-    pub status: Status,
     pub rounds: u32,
     pub cause: Option<Cause>,
+}
+
+impl Settlement {
+    // Overloaded where there is a cause, or else settled.
+    pub fn status(&self) -> Status
+        ensures { result ≡ status_of self.now.cause }
+    {
+        match self.cause {
+            Some(_) => Status::Overloaded,
+            None => Status::Settled,
+        }
+    }
+}
+
+// A number that no status has.
+#[derive(Clone, Copy)]
+pub struct UnknownStatus(pub u16);
+
+impl TryFrom<u16> for Status {
+    type Error = UnknownStatus;
+
+    ghost try_from_gives = { Numbered };
+
+    fn try_from(number: u16) -> Result<Status, UnknownStatus> {
+        match number {
+            0 => Ok(Status::Open),
+            1 => Ok(Status::Settled),
+            2 => Ok(Status::Overloaded),
+            _ => Err(UnknownStatus(number)),
+        }
+    }
+}
+
+impl From<Status> for u16 {
+    ghost from_gives = { λ status number. number ≡ status_number status };
+
+    fn from(status: Status) -> u16 {
+        match status {
+            Status::Open => 0,
+            Status::Settled => 1,
+            Status::Overloaded => 2,
+        }
+    }
+}
+
+// Its name.
+impl fmt::Display for Status {
+    ghost output = { λ status. Some (status_text status) };
+
+    fn fmt<W: fmt::Write>(&self, f: &mut fmt::Formatter<W>) -> fmt::Result {
+        f.write_str(match self {
+            Status::Open => "open",
+            Status::Settled => "settled",
+            Status::Overloaded => "overloaded",
+        })
+    }
+}
+
+// The early and the late end.
+impl fmt::Display for Window {
+    ghost output = { λ window. Some (window_text window) };
+
+    fn fmt<W: fmt::Write>(&self, f: &mut fmt::Formatter<W>) -> fmt::Result {
+        let Window { early, late } = self;
+        write!(f, "{early} {late}")
+    }
+}
+
+// The posted window, the held one, and the status of the sheet.
+impl fmt::Display for View {
+    ghost output = { λ view. Some (view_text view) };
+
+    fn fmt<W: fmt::Write>(&self, f: &mut fmt::Formatter<W>) -> fmt::Result {
+        let View {
+            posted,
+            held,
+            status,
+        } = self;
+        write!(f, "{posted} {held} {status}")
+    }
+}
+
+// Settled or overloaded, after how many rounds; and the cause, where there is one.
+impl fmt::Display for Settlement {
+    ghost output = { λ settlement. Some (settlement_text settlement) };
+
+    fn fmt<W: fmt::Write>(&self, f: &mut fmt::Formatter<W>) -> fmt::Result {
+        let rounds = self.rounds;
+        match &self.cause {
+            None => write!(f, "settled {rounds}"),
+            Some(cause) => write!(f, "overloaded {rounds} {cause}"),
+        }
+    }
 }
