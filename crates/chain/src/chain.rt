@@ -4,7 +4,7 @@ ghost use Rattle.rules.specs.Cards.{chained};
 
 mod calls;
 
-// Cards from 1 to 32, none of them twice.
+// Cards from 1 to 32, none of them twice. There is no heap: 32 places, of which the first `count` hold the cards.
 #[derive(Clone, Copy)]
 pub struct Chain {
     order: [u16; 32],
