@@ -1,8 +1,6 @@
 -- What the calls of a tree of white and grey leaves do to the jobs that it holds, and what its root tells of them. Assumes nothing.
-use Rattle.std.proofs.Common.{◌≡◌, ℕ, ◌<◌, ◌≤◌, Bool, true, false, cond, eqb, get_or, Some, None, Ok, Err, Option, sym, refl, ap, ◌∙◌, subst, ⊎_elim, arith}
+use Rattle.std.proofs.Common.{◌≡◌, ℕ, ◌<◌, ◌≤◌, Bool, true, false, cond, eqb, get_or, Some, None, Option, sym, refl, ap, ◌∙◌, subst, ⊎_elim, arith}
 use Rattle.std.proofs.lemmas.Bool.{cond-true, cond-false, cond_both, eq-eqb, ne_eqb, both_ways, cases_Bool, cases_eq}
-use Rattle.theta.specs.declared.refusals.LeafRefusal.{LeafRefusal}
-use Rattle.theta.specs.Refusals.{leaf_answer}
 use Rattle.theta.specs.Tree.{grown}
 use Rattle.theta.specs.Runs.{Call, start, puts, greys, drops, then, comes, seat, Begins, Follows}
 use Rattle.theta_nodes.specs.declared.grey.Grey.{Grey}
@@ -22,13 +20,6 @@ use Rattle.face.specs.GreyTrees.{mixed_leaf, mixed_leaves, HoldsBoth, Apart, Tel
 use Rattle.face.proofs.Ranks.{rank_apart, place_rank}
 use Rattle.face.proofs.Rows.{row_same, bare_row, seat_same, seat_step}
 use Rattle.face.proofs.Whites.{Same, SameBut, with_others, with_here, but_others, but_here}
-
--- what the answer to a leaf's numbers says of them
-pub grey_leaf_made : (d f : ℕ) (x : Grey) → Ok x ≡ leaf_answer d f (white_leaf_in d f) → (1 ≤ d) × (x ≡ white_leaf_in d f)
-grey_leaf_made d f x e = ((grind arith), (grind arith))
-
-pub grey_leaf_refused : (d f : ℕ) (x : Grey) (why : LeafRefusal) → Err why ≡ leaf_answer d f x → 1 ≤ d → d ≤ 100000 → f ≤ 1000000 → ⊥
-grey_leaf_refused d f x why e low high small = grind arith
 
 module _ (F : Face) (b : ℕ → ℕ) where
   -- the node of the job at a place
@@ -85,9 +76,9 @@ module _ (F : Face) (b : ℕ → ℕ) where
         let s = seat_step F few (node S G) (node S' G') empty_grey grey_placed turned_grey (grey_join b) T.nodes T'.nodes c j hj at becomes (λ _. refl) (λ p k hk ne. node_same S G S' G' p k (e k hk ne) (d k hk ne)) follows h.run h.stands h.leaves_are in
         record { run = then h.run c; stands = s.0; leaves_are = s.1 }
 
-    pub both_enter : (S G : ℕ → Bool) (T T' : GreyTree) (j p : ℕ) (x : Grey) → j < F.n → p ≡ place F j → x ≡ white_leaf_in (F.duration j) (earliest_finish F j) → Follows empty_grey grey_placed turned_grey (grey_join b) T.nodes T'.nodes (puts p x) → HoldsBoth F b S G T → HoldsBoth F b (with_job j S) (but j G) T'
-    both_enter S G T T' j p x hj at is follows h =
-        both_step S G (with_job j S) (but j G) T T' (puts p x) j hj at (ap (grey_placed p) is ∙ sym (node_white (with_job j S) (but j G) (place F j) j (but_here j G) (with_here j S))) (with_others F.n j S) (but_others F.n j G) follows h
+    pub both_enter : (S G : ℕ → Bool) (T T' : GreyTree) (j : ℕ) → j < F.n → Follows empty_grey grey_placed turned_grey (grey_join b) T.nodes T'.nodes (puts (place F j) (white_leaf_in (F.duration j) (earliest_finish F j))) → HoldsBoth F b S G T → HoldsBoth F b (with_job j S) (but j G) T'
+    both_enter S G T T' j hj follows h =
+        both_step S G (with_job j S) (but j G) T T' (puts (place F j) (white_leaf_in (F.duration j) (earliest_finish F j))) j hj refl (sym (node_white (with_job j S) (but j G) (place F j) j (but_here j G) (with_here j S))) (with_others F.n j S) (but_others F.n j G) follows h
 
     pub both_remove : (S G : ℕ → Bool) (T T' : GreyTree) (j p : ℕ) → j < F.n → p ≡ place F j → Follows empty_grey grey_placed turned_grey (grey_join b) T.nodes T'.nodes (drops p) → HoldsBoth F b S G T → HoldsBoth F b (but j S) (but j G) T'
     both_remove S G T T' j p hj at follows h =

@@ -1,6 +1,6 @@
 pub mod Fines
-pub mod Turns
 pub mod Alike
+pub mod Counts
 pub mod Ranks
 pub mod Rows
 pub mod Whites

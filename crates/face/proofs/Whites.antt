@@ -1,9 +1,8 @@
 -- What the calls of a tree of white leaves do to the jobs that it holds. Assumes nothing.
-use Rattle.std.proofs.Common.{◌≡◌, ℕ, zero, suc, ◌+◌, ◌^◌, ◌<◌, ◌≤◌, Bool, true, false, cond, not, ◌&&◌, ◌||◌, eqb, ◌≢◌, get_or, Some, None, Ok, Err, Option, Result, sym, refl, ap, ◌∙◌, subst, arith}
+use Rattle.std.proofs.Common.{◌≡◌, ℕ, zero, suc, ◌+◌, ◌^◌, ◌<◌, ◌≤◌, Bool, true, false, cond, not, ◌&&◌, ◌||◌, eqb, ◌≢◌, get_or, Some, None, Ok, Option, Result, sym, refl, ap, ◌∙◌, subst, arith}
 use Rattle.std.proofs.lemmas.Bool.{cond-true, cond-false, cond_both, eq-eqb, ne_eqb, or_left}
-use Rattle.theta.specs.declared.refusals.LeafRefusal.{LeafRefusal}
 use Rattle.theta.specs.declared.refusals.TreeRefusal.{TreeRefusal}
-use Rattle.theta.specs.Refusals.{leaf_answer, seated}
+use Rattle.theta.specs.Refusals.{seated}
 use Rattle.theta.specs.Tree.{grown}
 use Rattle.theta.specs.Runs.{Call, start, puts, lifts, sets_back, then, comes, seat, Begins, Follows}
 use Rattle.theta.proofs.Grows.{grow, root_is}
@@ -40,13 +39,6 @@ but_others n i S k hk d = ap (λ t. not t && S k) (ne_eqb k i d)
 
 pub but_here : (i : ℕ) (S : ℕ → Bool) → but i S i ≡ false
 but_here i S = ap (λ t. not t && S i) (eq-eqb i i refl)
-
--- what the answer to a leaf's numbers says of them
-pub leaf_made : (d f : ℕ) (x : White) → Ok x ≡ leaf_answer d f (white_leaf d f) → (1 ≤ d) × (x ≡ white_leaf d f)
-leaf_made d f x e = ((grind arith), (grind arith))
-
-pub leaf_refused : (d f : ℕ) (x : White) (why : LeafRefusal) → Err why ≡ leaf_answer d f x → 1 ≤ d → d ≤ 100000 → f ≤ 1000000 → ⊥
-leaf_refused d f x why e low high small = grind arith
 
 -- what a lift that is answered lifted
 pub lift_read : (many p q w : ℕ) (x y : White) → ◌≡◌ {A = Result (ℕ × White × ℕ) TreeRefusal} (Ok (q, x, w)) (seated many p (p, y, 6)) → (q ≡ p) × (x ≡ y)
@@ -106,9 +98,9 @@ module _ (F : Face) (b : ℕ → ℕ) where
         let s = seat_step F few (node S) (node S') empty_white (λ _ x. x) (λ x. x) (white_join b) T.nodes T'.nodes c j hj at becomes (λ _. refl) (λ p k hk d. node_same S S' p k (e k hk d)) follows h.run h.stands h.leaves_are in
         record { run = then h.run c; stands = s.0; leaves_are = s.1 }
 
-    pub holds_enter : (S : ℕ → Bool) (T T' : WhiteTree) (j p : ℕ) (x : White) → j < F.n → p ≡ place F j → x ≡ white_leaf (F.duration j) (earliest_finish F j) → Follows empty_white (λ _ x. x) (λ x. x) (white_join b) T.nodes T'.nodes (puts p x) → Holds F b S T → Holds F b (with_job j S) T'
-    holds_enter S T T' j p x hj at is follows h =
-        holds_step S (with_job j S) T T' (puts p x) j hj at (is ∙ sym (node_in (with_job j S) (place F j) j (with_here j S))) (with_others F.n j S) follows h
+    pub holds_enter : (S : ℕ → Bool) (T T' : WhiteTree) (j : ℕ) → j < F.n → Follows empty_white (λ _ x. x) (λ x. x) (white_join b) T.nodes T'.nodes (puts (place F j) (white_leaf (F.duration j) (earliest_finish F j))) → Holds F b S T → Holds F b (with_job j S) T'
+    holds_enter S T T' j hj follows h =
+        holds_step S (with_job j S) T T' (puts (place F j) (white_leaf (F.duration j) (earliest_finish F j))) j hj refl (sym (node_in (with_job j S) (place F j) j (with_here j S))) (with_others F.n j S) follows h
 
     pub holds_lifted : (S : ℕ → Bool) (T T' : WhiteTree) (i p : ℕ) → i < F.n → p ≡ place F i → Follows empty_white (λ _ x. x) (λ x. x) (white_join b) T.nodes T'.nodes (lifts p) → Holds F b S T → Holds F b (but i S) T'
     holds_lifted S T T' i p hi at follows h =

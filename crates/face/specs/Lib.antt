@@ -1,4 +1,5 @@
 pub mod Limits
+pub mod Jobs
 pub mod Shown
 pub mod Orders
 pub mod Readings

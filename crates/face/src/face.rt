@@ -1,19 +1,19 @@
 // A face: the jobs that a half round reads. Its calls stand below, in calls.rt.
-ghost use Rattle.std.specs.Prelude.{◌≡◌, ℕ, ◌<◌, true, slice_index};
 ghost use Rattle.changeover.specs.Table.{jobs_of};
-ghost use Rattle.face.specs.Limits.{in_limits};
+ghost use Rattle.face.specs.Limits.{AllIn};
+ghost use Rattle.face.specs.Jobs.{early_in, late_in, duration_in};
 
+use crate::job::Job;
 use changeover::Gaps;
 
 mod calls;
 mod make;
 
 // At most 32 jobs in card order, each in its limits, and the gaps between them.
+// There is no heap: 32 places, and as many jobs in them as the gaps are of.
 #[derive(Clone, Copy)]
 pub struct Face {
-    early: [u32; 32],
-    late: [u32; 32],
-    duration: [u32; 32],
+    jobs: [Job; 32],
     gaps: Gaps,
-    ghost fits: { (j : ℕ) → j < jobs_of gaps → in_limits (slice_index duration j) (slice_index early j) (slice_index late j) ≡ true },
+    ghost fits: { AllIn (jobs_of gaps) (early_in jobs) (late_in jobs) (duration_in jobs) },
 }

@@ -4,6 +4,7 @@
 mod face;
 mod grey_tree;
 mod job;
+mod nodes;
 mod order;
 mod reading;
 mod white_tree;

@@ -1,18 +1,16 @@
 // A tree of white leaves that holds the jobs of a set, each at its place.
 ghost use Rattle.std.specs.Prelude.{◌≡◌, ℕ, ◌<◌, Bool, false, slice_index_or};
-ghost use Rattle.theta.specs.Refusals.{leaf_answer};
-ghost use Rattle.theta_nodes.specs.White.{white_leaf, empty_white};
-ghost use Rattle.rules.specs.Faces.{Face as Shown, earliest_finish};
+ghost use Rattle.theta_nodes.specs.White.{empty_white};
+ghost use Rattle.rules.specs.Faces.{Face as Shown};
 ghost use Rattle.rules.specs.Places.{E};
 ghost use Rattle.rules.specs.Rules.{with_job};
-ghost use Rattle.face.specs.Shown.{shown};
-ghost use Rattle.face.specs.Readings.{read};
+ghost use Rattle.face.specs.Readings.{bound_of, read};
 ghost use Rattle.face.specs.WhiteTrees.{Holds, but};
 
-use crate::face::Face;
+use crate::nodes::{no_nodes, put_job};
 use crate::reading::Reading;
 use changeover::Numbers;
-use theta::{LeafRefusal, Node, ThetaNode, tree};
+use theta::tree;
 use theta_nodes::White;
 
 #[derive(Drop)]
@@ -20,30 +18,19 @@ pub struct WhiteTree {
     nodes: [White; 63],
 }
 
-// The leaf of a job.
-fn leaf(face: &Face, j: usize) -> Result<White, LeafRefusal>
-    ensures { result ≡ leaf_answer ((shown face.now).duration j) (earliest_finish (shown face.now) j) (white_leaf ((shown face.now).duration j) (earliest_finish (shown face.now) j)) }
-{
-    <White as theta::ThetaNode>::white_leaf(face.duration(j), face.earliest_finish(j))
-}
-
 impl WhiteTree {
     // The tree of no jobs.
     pub fn new() -> WhiteTree
         ensures { (F : Shown) (b : ℕ → ℕ) (S : ℕ → Bool) → b 0 ≡ 0 → ((j : ℕ) → j < F.n → S j ≡ false) → Holds F b S result }
     {
-        let mut nodes = [<White as theta::Node>::empty(); 63];
-        let _ = tree::clear(&mut nodes);
-        WhiteTree { nodes }
+        WhiteTree { nodes: no_nodes() }
     }
 
     // Puts a job in.
-    pub fn enter<W: Numbers>(&mut self, reading: &Reading, b: &W, j: usize)
-        ensures { (S : ℕ → Bool) → Holds (read reading.now) (W.Numbers.at b.now) S self.old → Holds (read reading.now) (W.Numbers.at b.now) (with_job j S) self.new }
+    pub fn enter<W: Numbers>(&mut self, reading: &Reading<'_, W>, j: usize)
+        ensures { (S : ℕ → Bool) → Holds (read reading.now) (W.Numbers.at (bound_of reading.now)) S self.old → Holds (read reading.now) (W.Numbers.at (bound_of reading.now)) (with_job j S) self.new }
     {
-        if let Ok(leaf) = leaf(&reading.face, j) {
-            let _ = tree::put(b, &mut self.nodes, reading.place(j), leaf);
-        }
+        put_job(&mut self.nodes, reading, j);
     }
 
     // The root.
@@ -61,30 +48,29 @@ impl WhiteTree {
     }
 
     // When the jobs but i, which is one, can finish at the earliest. The tree is left as it was.
-    fn finish_without_job<W: Numbers>(&mut self, reading: &Reading, b: &W, i: usize) -> Option<u32>
+    fn finish_without_job<W: Numbers>(&mut self, reading: &Reading<'_, W>, i: usize) -> Option<u32>
         requires { i < (read reading.now).n }
-        ensures value { (S : ℕ → Bool) → Holds (read reading.now) (W.Numbers.at b.now) S self.old → result ≡ E (read reading.now) (W.Numbers.at b.now) (but i S) }
-        ensures kept { (S : ℕ → Bool) → Holds (read reading.now) (W.Numbers.at b.now) S self.old → Holds (read reading.now) (W.Numbers.at b.now) S self.new }
+        ensures value { (S : ℕ → Bool) → Holds (read reading.now) (W.Numbers.at (bound_of reading.now)) S self.old → result ≡ E (read reading.now) (W.Numbers.at (bound_of reading.now)) (but i S) }
+        ensures kept { (S : ℕ → Bool) → Holds (read reading.now) (W.Numbers.at (bound_of reading.now)) S self.old → Holds (read reading.now) (W.Numbers.at (bound_of reading.now)) S self.new }
     {
-        let Ok(lifted) = tree::lift(b, &mut self.nodes, reading.place(i)) else {
+        let Ok((token, _)) = tree::lift(reading.bound, &mut self.nodes, reading.place(i)) else {
             unreachable()
         };
-        let (token, _) = lifted;
         let finish = self.finish();
-        match tree::set_back(b, &mut self.nodes, token) {
+        match tree::set_back(reading.bound, &mut self.nodes, token) {
             Ok(_) => finish,
             Err(_) => unreachable(),
         }
     }
 
     // When the jobs but i can finish at the earliest, by the bound. The tree is left as it was.
-    pub fn finish_without<W: Numbers>(&mut self, reading: &Reading, b: &W, i: usize) -> Option<u32>
-        ensures value { (S : ℕ → Bool) → Holds (read reading.now) (W.Numbers.at b.now) S self.old → result ≡ E (read reading.now) (W.Numbers.at b.now) (but i S) }
-        ensures kept { (S : ℕ → Bool) → Holds (read reading.now) (W.Numbers.at b.now) S self.old → Holds (read reading.now) (W.Numbers.at b.now) S self.new }
+    pub fn finish_without<W: Numbers>(&mut self, reading: &Reading<'_, W>, i: usize) -> Option<u32>
+        ensures value { (S : ℕ → Bool) → Holds (read reading.now) (W.Numbers.at (bound_of reading.now)) S self.old → result ≡ E (read reading.now) (W.Numbers.at (bound_of reading.now)) (but i S) }
+        ensures kept { (S : ℕ → Bool) → Holds (read reading.now) (W.Numbers.at (bound_of reading.now)) S self.old → Holds (read reading.now) (W.Numbers.at (bound_of reading.now)) S self.new }
     {
-        if i >= reading.face.jobs() {
+        if i >= reading.orders.face.jobs() {
             return self.finish();
         }
-        self.finish_without_job(reading, b, i)
+        self.finish_without_job(reading, i)
     }
 }

@@ -1,10 +1,11 @@
-// Reading a face.
+// Reading a face. A number that is read is a plain one: what is known of it stands on the call, and in no type of its own.
 ghost use Rattle.std.specs.Prelude.{◌≡◌, ℕ, ◌≤◌};
 ghost use Rattle.changeover.specs.Table.{jobs_of, gap_of};
 ghost use Rattle.rules.specs.Faces.{earliest_finish, latest_start};
-ghost use Rattle.face.specs.Shown.{shown, Keeps, Room};
+ghost use Rattle.face.specs.Shown.{shown, job_of, Room};
 
 use super::Face;
+use crate::job::{Job, nth_job};
 use changeover::Gaps;
 
 impl Face {
@@ -16,26 +17,13 @@ impl Face {
         self.gaps().jobs()
     }
 
-    // The early ends, by job.
-    pub(crate) fn earlies(&self) -> &[u32; 32]
-        ensures { Keeps (shown self.now).n 1000000 (shown self.now).early result.now }
+    // A job: no job where there is none.
+    fn job(&self, j: usize) -> Job
+        ensures value { result ≡ job_of (shown self.now) j }
+        ensures room { Room (shown self.now) j }
+        ensures short { result.duration ≤ 100000 }
     {
-        &self.early
-    }
-
-    // The late ends, by job.
-    pub(crate) fn lates(&self) -> &[u32; 32]
-        ensures { Keeps (shown self.now).n 1000000 (shown self.now).late result.now }
-    {
-        &self.late
-    }
-
-    // The durations, by job. Each window has room for its own.
-    fn durations(&self) -> &[u32; 32]
-        ensures each { Keeps (shown self.now).n 100000 (shown self.now).duration result.now }
-        ensures room { (j : ℕ) → Room (shown self.now) j }
-    {
-        &self.duration
+        nth_job(&self.jobs[..self.jobs()], j)
     }
 
     // The early end of a job's window; 0 where there is no such job.
@@ -43,8 +31,7 @@ impl Face {
         ensures value { result ≡ (shown self.now).early j }
         ensures small { result ≤ 1000000 }
     {
-        let earlies = self.earlies();
-        if j < self.jobs() { earlies[j] } else { 0 }
+        self.job(j).early
     }
 
     // The late end of a job's window; 0 where there is no such job.
@@ -52,8 +39,7 @@ impl Face {
         ensures value { result ≡ (shown self.now).late j }
         ensures small { result ≤ 1000000 }
     {
-        let lates = self.lates();
-        if j < self.jobs() { lates[j] } else { 0 }
+        self.job(j).late
     }
 
     // How long a job lasts; 0 where there is no such job.
@@ -62,8 +48,7 @@ impl Face {
         ensures small { result ≤ 100000 }
         ensures room { Room (shown self.now) j }
     {
-        let durations = self.durations();
-        if j < self.jobs() { durations[j] } else { 0 }
+        self.job(j).duration
     }
 
     // The gap from job i to job j; 0 where one of them is no job.

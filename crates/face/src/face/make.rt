@@ -1,39 +1,21 @@
 // Making faces.
-ghost use Rattle.std.specs.Prelude.{◌≡◌, ℕ, ◌<◌, ◌≤◌, ◌≢◌, slice_index};
+ghost use Rattle.std.specs.Prelude.{◌≡◌, ℕ, ◌-◌, ◌≢◌, length};
 ghost use Rattle.rules.specs.Faces.{turned};
 ghost use Rattle.changeover.specs.Table.{jobs_of, gap_of};
-ghost use Rattle.face.specs.Limits.{in_limits};
+ghost use Rattle.face.specs.Jobs.{early_in, late_in, duration_in};
 ghost use Rattle.face.specs.Shown.{shown, Verdict, Checked, Made, Windowed};
 
 use super::Face;
-use crate::job::Job;
+use crate::job::{HORIZON, Job, nth_job};
 use changeover::Gaps;
+use rules::Window;
+use std::array;
 
-// The last minute.
-const HORIZON: u32 = 1_000_000;
-
-// Whether a job is in its limits.
-fn is_in_limits(duration: u32, early: u32, late: u32) -> bool
-    ensures { result ≡ in_limits duration early late }
+// Whether each job of a list is in its limits.
+fn all_in_limits(jobs: &[Job]) -> bool
+    ensures { Verdict (length jobs.now) (early_in jobs.now) (late_in jobs.now) (duration_in jobs.now) result }
 {
-    if duration < 1 || duration > 100_000 || late > HORIZON || early > late {
-        false
-    } else {
-        duration <= late - early
-    }
-}
-
-// Whether each of n jobs is in its limits.
-fn all_in_limits(n: usize, early: &[u32; 32], late: &[u32; 32], duration: &[u32; 32]) -> bool
-    requires { n ≤ 32 }
-    ensures { Verdict n (λ j. slice_index early.now j) (λ j. slice_index late.now j) (λ j. slice_index duration.now j) result }
-{
-    for j in 0..n {
-        if !is_in_limits(duration[j], early[j], late[j]) {
-            return false;
-        }
-    }
-    true
+    jobs.iter().all(Job::is_in_limits)
 }
 
 // The gaps into job i, written as the gaps out of it.
@@ -43,6 +25,7 @@ fn turn_row(to: &mut Gaps, from: &Gaps, i: usize)
     ensures row { (b : ℕ) → gap_of to.new i b ≡ gap_of from.now b i }
     ensures others { (a b : ℕ) → a ≢ i → gap_of to.new a b ≡ gap_of to.old a b }
 {
+    // Over job numbers: each call takes both.
     for j in 0..from.jobs() {
         let _ = to.set_gap(i, j, from.gap(j, i) as u16);
     }
@@ -54,6 +37,7 @@ fn turned_gaps(gaps: &Gaps) -> Gaps
     ensures gaps { (i j : ℕ) → gap_of result i j ≡ gap_of gaps.now j i }
 {
     let mut to = *gaps;
+    // Over job numbers: each is handed on.
     for i in 0..gaps.jobs() {
         turn_row(&mut to, gaps, i);
     }
@@ -61,19 +45,14 @@ fn turned_gaps(gaps: &Gaps) -> Gaps
 }
 
 impl Face {
-    // The face of these windows and durations, or none where a job is out of its limits.
-    fn checked(early: [u32; 32], late: [u32; 32], duration: [u32; 32], gaps: &Gaps) -> Option<Face>
-        ensures { Checked (λ j. slice_index early j) (λ j. slice_index late j) (λ j. slice_index duration j) gaps.now result }
+    // The face of these jobs, or none where one is out of its limits.
+    fn checked(jobs: [Job; 32], gaps: &Gaps) -> Option<Face>
+        ensures { Checked (early_in jobs) (late_in jobs) (duration_in jobs) gaps.now result }
     {
-        if !all_in_limits(gaps.jobs(), &early, &late, &duration) {
+        if !all_in_limits(&jobs[..gaps.jobs()]) {
             return None;
         }
-        Some(Face {
-            early,
-            late,
-            duration,
-            gaps: *gaps,
-        })
+        Some(Face { jobs, gaps: *gaps })
     }
 
     // The face of these jobs, or none where they are not as many as the gaps are of, or one is out of its limits:
@@ -84,38 +63,45 @@ impl Face {
         if jobs.len() != gaps.jobs() {
             return None;
         }
-        let mut early = [0; 32];
-        let mut late = [0; 32];
-        let mut duration = [0; 32];
-        for (j, job) in jobs.iter().enumerate() {
-            early[j] = job.early;
-            late[j] = job.late;
-            duration[j] = job.duration;
+        Face::checked(array::from_fn(|j| nth_job(jobs, j)), gaps)
+    }
+
+    // A job in another window.
+    fn job_in(&self, j: usize, window: Window) -> Job
+        ensures { result ≡ record { duration = (shown self.now).duration j; early = window.early; late = window.late } }
+    {
+        let Window { early, late } = window;
+        Job {
+            duration: self.duration(j),
+            early,
+            late,
         }
-        Face::checked(early, late, duration, gaps)
     }
 
     // The same jobs in other windows, or none where one is then out of its limits.
-    pub fn with_windows(&self, early: &[u32; 32], late: &[u32; 32]) -> Option<Face>
-        ensures { Windowed self.now early.now late.now result }
+    pub fn with_windows(&self, windows: &[Window; 32]) -> Option<Face>
+        ensures { Windowed self.now windows.now result }
     {
-        Face::checked(*early, *late, self.duration, &self.gaps)
+        Face::checked(array::from_fn(|j| self.job_in(j, windows[j])), &self.gaps)
+    }
+
+    // A job with time running backwards from the last minute.
+    fn turned_job(&self, j: usize) -> Job
+        ensures { result ≡ record { duration = (shown self.now).duration j; early = 1000000 - (shown self.now).late j; late = 1000000 - (shown self.now).early j } }
+    {
+        Job {
+            duration: self.duration(j),
+            early: HORIZON - self.late(j),
+            late: HORIZON - self.early(j),
+        }
     }
 
     // The same jobs with time running backwards from the last minute.
     pub fn turned(&self) -> Face
         ensures { shown result ≡ turned (shown self.now) }
     {
-        let mut early = self.late;
-        let mut late = self.early;
-        for j in 0..self.jobs() {
-            early[j] = HORIZON - self.late[j];
-            late[j] = HORIZON - self.early[j];
-        }
         Face {
-            early,
-            late,
-            duration: self.duration,
+            jobs: array::from_fn(|j| self.turned_job(j)),
             gaps: turned_gaps(&self.gaps),
         }
     }

@@ -1,29 +1,29 @@
-use Rattle.std.proofs.Common.{◌<◌, get_or, refl, arith}
-use Rattle.changeover.specs.Table.{jobs_of}
-use Rattle.face.proofs.Fines.{n_is, limits_from, each_fits}
+use borrow.Author.Tests.{tests}
+use Rattle.std.proofs.Common.{◌≡◌, ℕ, ◌-◌, true, rules, sym, subst, arith}
+use Rattle.face.specs.declared.face.Face.{Face}
+use Rattle.face.specs.declared.job.Job.{Job}
+use Rattle.face.specs.Limits.{in_limits}
+use Rattle.face.specs.Shown.{shown, no_job}
+use Rattle.changeover.proofs.Chains.{filled}
+use Rattle.face.proofs.Fines.{n_is, fine, limits_from, duration_small, wide_anyway, late_small}
 use Rattle.face.proofs.Alike.{turned_is}
 use Rattle.face.proofs.face.Face.turned.Goals as goal
 
-pub overflow_sub-early : goal.overflow_sub-early
-overflow_sub-early c = let F = c.args.self.now in omega (arith, each_fits F c.loop-j.j (omega (arith, n_is F)))
-
-pub overflow_sub-late : goal.overflow_sub-late
-overflow_sub-late c = let F = c.args.self.now in omega (arith, each_fits F c.loop-j.j (omega (arith, n_is F)))
+-- a job of a face, turned
+abbrev turned_job : Face → ℕ → Job
+turned_job F j = record { duration = (shown F).duration j; early = 1000000 - (shown F).late j; late = 1000000 - (shown F).early j }
 
 pub invariant_of-result : goal.invariant_of-result
 invariant_of-result c =
     let F = c.args.self.now in
     record {
       fits = λ j h.
-          let k : j < jobs_of F.gaps = omega arith in
-          let fits = each_fits F j k in
-          let e = c.loop-j.invariant.2 j (omega (arith, n_is F)) in
-          let l = c.loop-j.invariant.3 j (omega (arith, n_is F)) in
-          limits_from (get_or F.duration j 0) (get_or c.loop-j.early j 0) (get_or c.loop-j.late j 0)
-          (record { lasts = omega arith; short = omega arith; wide = omega arith; closes = omega arith });
+          let e = filled _ c.from_fn.result no_job (turned_job F) (λ x r q k. search (rules, tests)) 32 j c.from_fn.ensures.items (omega (arith, F.gaps.few)) in
+          subst (λ x. in_limits x.duration x.early x.late ≡ true) (sym e)
+          (limits_from _ _ _ (record { lasts = ((fine F).lasts j (omega (arith, n_is F))).0; short = duration_small F j; wide = omega (arith, wide_anyway F j, late_small F j); closes = omega arith }));
     }
 
 pub returns : goal.returns
 returns c =
     let F = c.args.self.now in
-    turned_is F _ c.turned_gaps.ensures.jobs refl (λ j h. c.loop-j.invariant.2 j (omega (arith, n_is F))) (λ j h. c.loop-j.invariant.3 j (omega (arith, n_is F))) c.turned_gaps.ensures.gaps
+    turned_is F _ c.turned_gaps.ensures.jobs (λ j h. filled _ c.from_fn.result no_job (turned_job F) (λ x r q k. search (rules, tests)) 32 j c.from_fn.ensures.items (omega (arith, F.gaps.few))) c.turned_gaps.ensures.gaps

@@ -1,6 +1,6 @@
 use Rattle.std.proofs.Common.{◌≡◌, ℕ, Bool, sym, ◌∙◌, subst}
 use Rattle.theta_lambda.specs.Tells.{Tells}
-use Rattle.face.specs.Readings.{read}
+use Rattle.face.specs.Readings.{bound_of, read}
 use Rattle.face.specs.GreyTrees.{mixed_leaves, HoldsBoth, TellsJobs}
 use Rattle.face.proofs.Fines.{fine}
 use Rattle.face.proofs.Greys.{both_tree, limits, tells_white, tells_none, tells_some}
@@ -11,8 +11,8 @@ pub returns : goal.returns
 returns g c =
     let R = c.args.reading.now in
     let F = read R in
-    let ok = fine R.face in
-    let b = g.W.Numbers.at c.args.b.now in
+    let ok = fine R.orders.face in
+    let b = g.W.Numbers.at (bound_of c.args.reading.now) in
     let root = c.in-Ok.root in
     let told : (S G : ℕ → Bool) → HoldsBoth F b S G c.args.self.now → Tells b (mixed_leaves F S G) root =
     λ S G h.

@@ -1,11 +1,6 @@
-use Rattle.std.proofs.Common.{ℕ, get_or, subst}
+use Rattle.std.proofs.Common.{rules}
 use Rattle.face.specs.Shown.{shown}
-use Rattle.face.specs.Orders.{Listed}
-use Rattle.face.proofs.Ranks.{listed_same}
 use Rattle.face.proofs.reading.calls.by_late.Goals as goal
 
 pub returns : goal.returns
-returns c =
-    let F = c.args.face.now in
-    let key : ℕ → ℕ = λ k. get_or c.lates.result.now k 0 in
-    listed_same (shown F).n key (shown F).late c.order.result c.lates.ensures.0 (subst (λ m. Listed m key c.order.result) c.jobs.ensures.value c.order.ensures)
+returns c = c.order.ensures (shown c.args.face.now).n (shown c.args.face.now).late (c.of.ensures (shown c.args.face.now).late (λ j x p. search rules))

@@ -1,12 +1,7 @@
-use Rattle.std.proofs.Common.{ℕ, get_or, subst}
+use Rattle.std.proofs.Common.{rules}
 use Rattle.rules.specs.Faces.{latest_start}
 use Rattle.face.specs.Shown.{shown}
-use Rattle.face.specs.Orders.{Listed}
-use Rattle.face.proofs.Ranks.{listed_same}
 use Rattle.face.proofs.reading.calls.by_latest_start.Goals as goal
 
 pub returns : goal.returns
-returns c =
-    let F = c.args.face.now in
-    let key : ℕ → ℕ = λ k. get_or c.latest_starts.result k 0 in
-    listed_same (shown F).n key (latest_start (shown F)) c.order.result c.latest_starts.ensures (subst (λ m. Listed m key c.order.result) c.jobs.ensures.value c.order.ensures)
+returns c = c.order.ensures (shown c.args.face.now).n (latest_start (shown c.args.face.now)) (c.of.ensures (latest_start (shown c.args.face.now)) (λ j x p. search rules))
