@@ -69,10 +69,13 @@ module _ (F : Face) (b : ℕ → ℕ) (j : ℕ) where
       (λ d. flag_other flags i k false d ∙ sym (but_others F.n i (flagged flags) k hk d))
       (cases_eq k i)
 
-  -- no grey job is white after jobs have moved
-  pub moved_apart : (greys greys' : List Bool) (out out' : List ℕ) → Apart F (up_to F j) (flagged greys) → ((k : ℕ) → k < F.n → Moved F b j greys out greys' out' k) → Apart F (up_to F j) (flagged greys')
-  moved_apart greys greys' out out' apart moved k hk g =
-      ⊎_elim (λ m. apart k hk (sym m.0 ∙ g)) (λ m. absurd (both_ways _ m.1 g)) (moved k hk)
+  -- no grey job is white after one is taken out
+  pub fewer_apart : (S : ℕ → Bool) (greys : List Bool) (i : ℕ) → i < length greys → Apart F S (flagged greys) → Apart F S (flagged (set greys i false))
+  fewer_apart S greys i h apart k hk grey =
+      ⊎_elim
+      (λ e. absurd (both_ways _ (ap (flagged (set greys i false)) e ∙ flag_here greys i false h) grey))
+      (λ d. apart k hk (sym (flag_other greys i k false d) ∙ grey))
+      (cases_eq k i)
 
   -- one job more has moved
   pub moved_more : (greys greys' : List Bool) (out out' : List ℕ) (i v : ℕ) → length greys' ≡ 32 → length out' ≡ 32 → i < 32 → i < F.n → flagged greys' i ≡ true → crowded F b i j ≡ true → v ≡ or_zero (after F b (up_to F j) i) → ((k : ℕ) → k < F.n → Moved F b j greys out greys' out' k) → (k : ℕ) → k < F.n → Moved F b j greys out (set greys' i false) (set out' i v) k

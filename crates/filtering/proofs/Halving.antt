@@ -1,70 +1,65 @@
 -- What a half round finds and leaves. Assumes nothing.
-use Rattle.std.proofs.Common.{◌≡◌, ℕ, ◌+◌, ◌<◌, ◌≤◌, min, max, Bool, not, ◌&&◌, eqb, ltb, List, get_or, Some, None, Option, sym, refl, ap, ◌∙◌, subst, arith}
+use Rattle.std.proofs.Common.{◌≡◌, ℕ, ◌+◌, ◌<◌, ◌≤◌, min, max, Bool, true, false, ltb, List, Some, None, Option, Ok, Err, sym, refl, ap, ◌∙◌, subst, arith}
 use Rattle.std.proofs.lemmas.Bool.{ltb-false, both_ways}
+use Rattle.std.specs.Option.{MatchOption}
 use Rattle.rules.specs.declared.outcome.Overload.{Overload}
 use Rattle.rules.specs.declared.outcome.Overload.TheVariants.{NeitherFirst, TooShort}
+use Rattle.rules.specs.declared.sheet.Window.{Window}
 use Rattle.rules.specs.Faces.{Face, with_windows}
 use Rattle.rules.specs.Places.{first_such}
-use Rattle.rules.specs.Rules.{greatest, can_precede, pair_early, clash, found, clashing, overloading, detected_early, edge_early, not_last_late, new_early, new_late, shortened, Half, overloaded, goes_on, unless, half_round}
+use Rattle.rules.specs.Rules.{pair_early, clash, found, clashing, overloading, detected_early, edge_early, not_last_late, new_early, new_late, shortened, Half, overloaded, goes_on, unless, half_round}
 use Rattle.rules.specs.Theorems.{Fine}
 use Rattle.rules.proofs.Searches.{such_none}
-use Rattle.face.specs.Shown.{SomeOut}
+use Rattle.face.specs.declared.reading.Reading.{Reading}
+use Rattle.face.specs.Readings.{bound_of, read}
+use Rattle.face.specs.Shown.{early_end, late_end, SomeOut}
 use Rattle.face.proofs.Fines.{limits_from}
 use Rattle.face.proofs.Alike.{of_job_same}
-use Rattle.filtering.specs.Pairs.{over_for}
-use Rattle.filtering.proofs.Finds.{such_same}
+use Rattle.filtering.specs.Ends.{verdict, Ruled}
+use Rattle.filtering.specs.Pairs.{first_with}
+use Rattle.filtering.proofs.Finds.{such_from, such_same}
 
--- whether a job of a higher card clashes with job i
-abbrev pub clashes_with : Face → ℕ → Bool
-clashes_with F i = found (first_such (clash F i) F.n)
-
--- the pair that is told
-abbrev pair : Face → Option ℕ → Option Overload
-pair F o =
-    elim o [
-      | None ↦ None
-      | Some i ↦ elim (first_such (clash F i) F.n) [ None ↦ None | Some j ↦ Some (NeitherFirst i j) ]
-    ]
-
--- rule 1 where no job clashes with another
-pub clashing_none : (F : Face) → None ≡ first_such (clashes_with F) F.n → None ≡ clashing F
+-- what `find_map` over the jobs says of rule 1
+pub clashing_from : (F : Face) (o : Option Overload) → MatchOption o ((k : ℕ) → k < F.n → None ≡ first_with F k) (λ x. (i : ℕ) × (i < F.n) × (Some x ≡ first_with F i) × ((k : ℕ) → k < i → None ≡ first_with F k)) → o ≡ clashing F
 unfolding clashing
-clashing_none F e = ap (pair F) e
+clashing_from F o gave = go o gave
+  where
+    clashes : ℕ → Bool
+    clashes i = found (first_such (clash F i) F.n)
 
--- and where i and j are the first that do
-pub clashing_at : (F : Face) (i j : ℕ) → Some i ≡ first_such (clashes_with F) F.n → Some j ≡ first_such (clash F i) F.n → Some (NeitherFirst i j) ≡ clashing F
-unfolding clashing
-clashing_at F i j e f = ap (λ (o : Option ℕ). elim o [ None ↦ None | Some j ↦ Some (NeitherFirst i j) ]) f ∙ ap (pair F) e
+    told : ℕ → Option ℕ → Option Overload
+    told i p = elim p [ None ↦ None | Some j ↦ Some (NeitherFirst i j) ]
 
--- job j has to come before job i
-abbrev pub comes_first : Face → ℕ → ℕ → Bool
-comes_first F i j = not (eqb j i) && not (can_precede F i j)
+    lowest : Option ℕ → Option Overload
+    lowest p = elim p [ None ↦ None | Some i ↦ first_with F i ]
 
--- and then i starts no earlier than this
-abbrev pub after_it : Face → ℕ → ℕ → ℕ
-after_it F i j = over_for F j i
+    none : (i : ℕ) (p : Option ℕ) → None ≡ told i p → found p ≡ false
+    none i None e = refl
+    none i (Some j) e = absurd (grind arith)
 
--- rule 3
-pub pair_early_is : (F : Face) (i : ℕ) → greatest (comes_first F i) (after_it F i) F.n ≡ pair_early F i
-unfolding pair_early can_precede
-pair_early_is F i = refl
+    some : (i : ℕ) (x : Overload) (p : Option ℕ) → Some x ≡ told i p → found p ≡ true
+    some i x None e = absurd (grind arith)
+    some i x (Some j) e = refl
+
+    go : (o : Option Overload) → MatchOption o ((k : ℕ) → k < F.n → None ≡ first_with F k) (λ x. (i : ℕ) × (i < F.n) × (Some x ≡ first_with F i) × ((k : ℕ) → k < i → None ≡ first_with F k)) → o ≡ lowest (first_such clashes F.n)
+    go None all = ap lowest (such_from clashes F.n None (λ k h. none k (first_such (clash F k) F.n) (all k h)))
+    go (Some x) (i, h, e, all) = e ∙ ap lowest (such_from clashes F.n (Some i) (h, some i x (first_such (clash F i) F.n) e, λ k l. none k (first_such (clash F k) F.n) (all k l)))
 
 -- the job that is told
 abbrev pub short : Option ℕ → Option Overload
 short o = elim o [ None ↦ None | Some i ↦ Some (TooShort i) ]
 
--- the window of job i, of these early and late ends, is shorter than its duration
-abbrev pub is_short : Face → List ℕ → List ℕ → ℕ → Bool
-is_short F early late i = ltb (get_or late i 0) (get_or early i 0 + F.duration i)
+-- the window of job i is shorter than its duration
+abbrev pub is_short : Face → List Window → ℕ → Bool
+is_short F windows i = ltb (late_end windows i) (early_end windows i + F.duration i)
 
 -- rule 7, where these are the new windows
-pub shortened_by : (F : Face) (b : ℕ → ℕ) (early late : List ℕ) → ((i : ℕ) → i < F.n → get_or early i 0 ≡ new_early F b i) → ((i : ℕ) → i < F.n → get_or late i 0 ≡ new_late F b i) →
-    (o : Option ℕ) → o ≡ first_such (is_short F early late) F.n → short o ≡ shortened F b
+pub shortened_by : (F : Face) (b : ℕ → ℕ) (windows : List Window) → Ruled F b windows → (o : Option ℕ) → o ≡ first_such (is_short F windows) F.n → short o ≡ shortened F b
 unfolding shortened
-shortened_by F b early late opens closes o e =
+shortened_by F b windows ruled o e =
     let at : ℕ → Bool = λ i. ltb (new_late F b i) (new_early F b i + F.duration i) in
-    let same : (i : ℕ) → i < F.n → is_short F early late i ≡ at i = λ i h. let p = opens i h in let q = closes i h in cc in
-    ap short (e ∙ such_same (is_short F early late) at F.n same)
+    let same : (i : ℕ) → i < F.n → is_short F windows i ≡ at i = λ i h. let p = (ruled i h).0 in let q = (ruled i h).1 in cc in
+    ap short (e ∙ such_same (is_short F windows) at F.n same)
 
 -- where rule 7 finds nothing every window is long enough
 long_enough : (F : Face) (b : ℕ → ℕ) → None ≡ shortened F b → (i : ℕ) → i < F.n → new_early F b i + F.duration i ≤ new_late F b i
@@ -125,25 +120,33 @@ module _ (F : Face) (b : ℕ → ℕ) (no_clash : None ≡ clashing F) where
   pub half_on : None ≡ overloading F b → None ≡ shortened F b → (G : Face) → G ≡ with_windows F (new_early F b) (new_late F b) → goes_on G ≡ half_round F b
   half_on f g G windows = ap goes_on windows ∙ by_tests_are F b None None None no_clash f g
 
--- what is known of the face that was read is known of the face
-pub overloading_same : (F G : Face) (b : ℕ → ℕ) (o : Option Overload) → G ≡ F → o ≡ overloading G b → o ≡ overloading F b
-overloading_same F G b o e f = f ∙ ap (λ X. overloading X b) e
-
-pub of_same : (F G : Face) (f : Face → ℕ → ℕ) (xs : List ℕ) → G ≡ F → ((i : ℕ) → i < G.n → get_or xs i 0 ≡ f G i) → (i : ℕ) → i < F.n → get_or xs i 0 ≡ f F i
-of_same F G f xs e = subst (λ X. (i : ℕ) → i < X.n → get_or xs i 0 ≡ f X i) e
-
 -- where rule 7 finds nothing, every job stays in its limits in the new windows
-pub none_out : (F : Face) (b : ℕ → ℕ) (early late : List ℕ) → Fine F → None ≡ shortened F b →
-    ((i : ℕ) → i < F.n → get_or early i 0 ≡ new_early F b i) → ((i : ℕ) → i < F.n → get_or late i 0 ≡ new_late F b i) →
-    SomeOut F.n (λ j. get_or early j 0) (λ j. get_or late j 0) F.duration → ⊥
-none_out F b early late fine e opens closes out =
+pub none_out : (F : Face) (b : ℕ → ℕ) (windows : List Window) → Fine F → None ≡ shortened F b → Ruled F b windows → SomeOut F.n (early_end windows) (late_end windows) F.duration → ⊥
+none_out F b windows fine e ruled out =
     let j = out.0 in
     let h = out.1 in
     let long = long_enough F b e j h in
-    let inside = limits_from (F.duration j) (get_or early j 0) (get_or late j 0) (record {
+    let inside = limits_from (F.duration j) (early_end windows j) (late_end windows j) (record {
       lasts = (fine.lasts j h).0;
       short = (fine.lasts j h).1;
-      wide = omega (arith, opens j h, closes j h);
-      closes = omega (arith, closes j h, late_shrinks F b j, fine.closes j h);
+      wide = omega (arith, (ruled j h).0, (ruled j h).1);
+      closes = omega (arith, (ruled j h).1, late_shrinks F b j, fine.closes j h);
     }) in
     both_ways _ out.2 inside
+
+-- what a test answers tells what it found
+pub found_some : (x : Overload) (o : Option Overload) → Err x ≡ verdict o → Some x ≡ o
+found_some x None e = absurd (grind arith)
+found_some x (Some y) e = grind arith
+
+pub found_none : (o : Option Overload) → Ok tt ≡ verdict o → None ≡ o
+found_none None e = refl
+found_none (Some y) e = absurd (grind arith)
+
+-- what is known of a calm reading, which is of a face and a bound, is known of these
+module _ {W : Type 0} (at : W → ℕ → ℕ) (F : Face) (w : W) (made calm : Reading W) (face : read made ≡ F) (bound : bound_of made ≡ w) (same : calm ≡ made) where
+  pub calm_by : overloading (read calm) (at (bound_of calm)) ≡ None → None ≡ overloading F (at w)
+  calm_by e = sym e ∙ ap (λ R. overloading (read R) (at (bound_of R))) same ∙ ap (λ X. overloading X (at (bound_of made))) face ∙ ap (λ v. overloading F (at v)) bound
+
+  pub ruled_by : (windows : List Window) → Ruled (read calm) (at (bound_of calm)) windows → Ruled F (at w) windows
+  ruled_by windows ruled = subst (λ v. Ruled F (at v) windows) bound (subst (λ X. Ruled X (at (bound_of made)) windows) face (subst (λ R. Ruled (read R) (at (bound_of R)) windows) same ruled))

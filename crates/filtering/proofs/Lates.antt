@@ -18,7 +18,7 @@ first_none before S zero out = refl
 first_none before S (suc m) out = cond-false (S m) _ _ (out m (omega arith)) ∙ first_none before S m (λ j h. out j (omega arith))
 
 -- where nothing is found, the set has no jobs
-pub none_first : (before : ℕ → ℕ → Bool) (S : ℕ → Bool) (m : ℕ) → first_in before S m ≡ None → (j : ℕ) → j < m → S j ≡ false
+none_first : (before : ℕ → ℕ → Bool) (S : ℕ → Bool) (m : ℕ) → first_in before S m ≡ None → (j : ℕ) → j < m → S j ≡ false
 unfolding first_in
 none_first before S zero e j h = absurd (not-suc-le-zero h)
 none_first before S (suc m) e j h =
@@ -32,7 +32,7 @@ none_first before S (suc m) e j h =
     some (Some i) q = cond_both (before m i) (Some m) (Some i) (λ (o : Option ℕ). o ≡ None → ⊥) (λ _ r. let z : ◌≡◌ {A = ℕ} 0 1 = cc in omega arith) (λ _ r. let z : ◌≡◌ {A = ℕ} 0 1 = cc in omega arith) q
 
 -- a job of the set that comes before each other one is the first
-pub first_found : (before : ℕ → ℕ → Bool) (S : ℕ → Bool) (j m : ℕ) → j < m → S j ≡ true → ((k : ℕ) → k < m → S k ≡ true → k ≢ j → (before j k ≡ true) × (before k j ≡ false)) → first_in before S m ≡ Some j
+first_found : (before : ℕ → ℕ → Bool) (S : ℕ → Bool) (j m : ℕ) → j < m → S j ≡ true → ((k : ℕ) → k < m → S k ≡ true → k ≢ j → (before j k ≡ true) × (before k j ≡ false)) → first_in before S m ≡ Some j
 unfolding first_in
 first_found before S j zero h t least = absurd (not-suc-le-zero h)
 first_found before S j (suc m) h t least =
@@ -58,7 +58,7 @@ first_found before S j (suc m) h t least =
 
 module _ (n : ℕ) (key : ℕ → ℕ) (S : ℕ → Bool) where
   -- the job of lowest rank is the first in the order of the key
-  pub lowest_first : (j : ℕ) → j < n → S j ≡ true → ((k : ℕ) → k < n → rank n key k < rank n key j → S k ≡ false) → first_in (before_by key) S n ≡ Some j
+  lowest_first : (j : ℕ) → j < n → S j ≡ true → ((k : ℕ) → k < n → rank n key k < rank n key j → S k ≡ false) → first_in (before_by key) S n ≡ Some j
   lowest_first j hj t out =
       first_found (before_by key) S j n hj t
       (λ k hk s d.
@@ -85,9 +85,6 @@ firsts_with n key j t at k hk =
   where
     shifted : (x y : ℕ) → x ≢ y → ltb x (y + 1) ≡ ltb x y
     shifted x y d = ⊎_elim (λ l. lt-ltb x (y + 1) (omega arith) ∙ sym (lt-ltb x y l)) (λ l. le-ltb x (y + 1) (omega arith) ∙ sym (le-ltb x y l)) (cases_lt x y)
-
-pub firsts_none : (n : ℕ) (key : ℕ → ℕ) (k : ℕ) → firsts n key 0 k ≡ false
-firsts_none n key k = le-ltb (rank n key k) 0 (omega arith)
 
 -- the jobs up to one in late order are the first ones
 pub up_to_firsts : (F : Face) (j t : ℕ) → HasRank F.n F.late t j → Same F.n (firsts F.n F.late (t + 1)) (up_to F j)

@@ -1,6 +1,7 @@
 -- A loop that goes round by round reaches what settling gives. Assumes nothing.
-use Rattle.std.proofs.Common.{◌≡◌, ℕ, zero, suc, ◌+◌, ◌-◌, ◌*◌, ◌<◌, ◌≤◌, true, false, cond, Some, None, sym, refl, ap, ◌∙◌, subst, ⊎_elim, not-suc-le-zero, add-one, arith}
+use Rattle.std.proofs.Common.{◌≡◌, ℕ, zero, suc, ◌+◌, ◌-◌, ◌*◌, ◌<◌, ◌≤◌, Bool, true, false, cond, Some, None, sym, refl, ap, ◌∙◌, subst, ⊎_elim, not-suc-le-zero, arith}
 use Rattle.std.proofs.lemmas.Bool.{cases_eq, cond-true, cond-false, and_from, and_left, and_right}
+use Rattle.std.specs.Bool.{MatchBool}
 use Rattle.changeover.specs.Rows.{Lawful}
 use Rattle.rules.specs.declared.outcome.Cause.{Cause}
 use Rattle.rules.specs.Faces.{Face}
@@ -12,27 +13,28 @@ use Rattle.rules.proofs.Sound.{rules_hold, turning_holds}
 use Rattle.filtering.specs.Ends.{same_at}
 
 module _ (F G : Face) where
-  -- before the first turn of a loop that compares windows
-  pub same_start : true ≡ same_windows F G 0
-  unfolding same_windows
-  same_start = refl
-
+  -- one window more
   same_step : (k : ℕ) → true ≡ same_windows F G k → true ≡ same_at F G k → true ≡ same_windows F G (suc k)
   unfolding same_windows
   same_step k before here = sym (and_from (same_windows F G k) (same_at F G k) (sym before) (sym here))
 
-  -- a turn that finds the same window
-  pub same_more : (k : ℕ) → true ≡ same_windows F G k → true ≡ same_at F G k → true ≡ same_windows F G (k + 1)
-  same_more k before here = rw add-one (same_step k before here)
-
-  -- a turn that finds another
-  pub same_not : (k n : ℕ) → k < n → false ≡ same_at F G k → false ≡ same_windows F G n
+  same_not : (k n : ℕ) → k < n → false ≡ same_at F G k → false ≡ same_windows F G n
   unfolding same_windows
   same_not k zero h here = absurd (not-suc-le-zero h)
   same_not k (suc n) h here =
       ⊎_elim (λ e. sym (and_right (same_windows F G n) (same_at F G n) (sym (here ∙ ap (same_at F G) e))))
       (λ d. sym (and_left (same_windows F G n) (same_at F G n) (sym (same_not k n (omega arith) here))))
       (cases_eq k n)
+
+  same_from : (n : ℕ) → ((k : ℕ) → k < n → same_at F G k ≡ true) → true ≡ same_windows F G n
+  unfolding same_windows
+  same_from zero all = refl
+  same_from (suc n) all = same_step n (same_from n (λ k h. all k (omega arith))) (sym (all n (omega arith)))
+
+  -- what `all` over the jobs says
+  pub same_every : (n : ℕ) (b : Bool) → MatchBool b ((k : ℕ) → k < n → same_at F G k ≡ true) ((k : ℕ) × (k < n) × (same_at F G k ≡ false)) → b ≡ same_windows F G n
+  same_every n true all = same_from n all
+  same_every n false (k, h, not) = same_not k n h (sym not)
 
 -- so many minutes at most
 minutes_under : (F : Face) → Fine F → (k : ℕ) → k ≤ F.n → minutes F k ≤ 1000000 * k
@@ -81,11 +83,6 @@ module _ (b : ℕ → ℕ) where
     pub less : r + all_minutes G ≤ all_minutes F
     pub goes : settled b F ≡ settled_within (all_minutes F + 1 - r) b G r
 
-  -- at first
-  pub came_first : (F : Face) → Lawful F.n F.gap b → Came F F 0
-  unfolding settled
-  came_first F law = record { lawful = law; less = omega arith; goes = let same : all_minutes F + 1 ≡ all_minutes F + 1 - 0 = omega arith in ap (λ fuel. settled_within fuel b F 0) same }
-
   module _ (F G : Face) (r : ℕ) (came : Came F G r) where
     fuelled : all_minutes F + 1 - r ≡ suc (all_minutes F - r)
     fuelled = omega (arith, came.less)
@@ -109,8 +106,6 @@ module _ (b : ℕ → ℕ) where
       goes = goes_on_with ∙ within_next (all_minutes F - r) G H r (sym e) (sym u) ∙ ap (λ fuel. settled_within fuel b H (r + 1)) (omega (arith, came.less));
     }
 
--- numbers that are equal one by one are the numbers of a bound, at jobs and gaps that are equal
-pub same_numbers : (b : ℕ → ℕ) (becomes : ℕ → (ℕ → ℕ → ℕ) → ℕ → ℕ) (m n : ℕ) (f g : ℕ → ℕ → ℕ) → ((e : ℕ) → b e ≡ becomes m f e) → m ≡ n → f ≡ g → b ≡ becomes n g
-same_numbers b becomes m n f g each many same =
-    let at : (e : ℕ) → b e ≡ becomes n g e = λ e. each e ∙ ap (λ k. becomes k f e) many ∙ ap (λ q. becomes n q e) same in
-    λ r e. at e r
+-- numbers that are equal one by one are the same numbers
+pub same_numbers : (b c : ℕ → ℕ) → ((e : ℕ) → b e ≡ c e) → b ≡ c
+same_numbers b c each = λ r e. each e r

@@ -27,13 +27,13 @@ module _ (F : Face) (b : ℕ → ℕ) where
       ⊎_elim (λ l. and_right (before_by F.late k i) (crowded F b i k) (out l)) (λ l. and_left (before_by F.late k i) (crowded F b i k) (rank_not_before F.late F.n k i hk hi l)) (cases_lt (rank F.n F.late k) (rank F.n F.late i))
 
   -- no job is tight
-  pub edge_none : (i : ℕ) → i < F.n → ((k : ℕ) → k < F.n → rank F.n F.late k < rank F.n F.late i → crowded F b i k ≡ false) → 0 ≡ edge_early F b i
+  edge_none : (i : ℕ) → i < F.n → ((k : ℕ) → k < F.n → rank F.n F.late k < rank F.n F.late i → crowded F b i k ≡ false) → 0 ≡ edge_early F b i
   unfolding edge_early
   edge_none i hi out =
       sym (ap (λ o. elim o [ None ↦ 0 | Some j ↦ or_zero (after F b (up_to F j) i) ]) (first_none (λ k j. before_by F.late j k) (tight F b i) F.n (λ k hk. tight_not i k hi hk (out k hk))))
 
   -- j is the last that is tight
-  pub edge_found : (i j t : ℕ) → i < F.n → HasRank F.n F.late t j → t < rank F.n F.late i → crowded F b i j ≡ true → ((k : ℕ) → k < F.n → t + 1 ≤ rank F.n F.late k → rank F.n F.late k < rank F.n F.late i → crowded F b i k ≡ false) → or_zero (after F b (up_to F j) i) ≡ edge_early F b i
+  edge_found : (i j t : ℕ) → i < F.n → HasRank F.n F.late t j → t < rank F.n F.late i → crowded F b i j ≡ true → ((k : ℕ) → k < F.n → t + 1 ≤ rank F.n F.late k → rank F.n F.late k < rank F.n F.late i → crowded F b i k ≡ false) → or_zero (after F b (up_to F j) i) ≡ edge_early F b i
   unfolding edge_early tight crowded
   edge_found i j t hi at l y out =
       sym (ap (λ o. elim o [ None ↦ 0 | Some k ↦ or_zero (after F b (up_to F k) i) ])

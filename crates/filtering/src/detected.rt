@@ -1,74 +1,107 @@
 // Rule 4, detectable precedences, and rule 5, not-last.
-ghost use Rattle.std.specs.Prelude.{◌≡◌, ℕ, ◌<◌, ◌≤◌, slice_index};
-ghost use Rattle.rules.specs.Rules.{detected_early, not_last_late};
-ghost use Rattle.face.specs.Readings.{read};
-ghost use Rattle.filtering.specs.Sets.{Filled};
+ghost use Rattle.std.specs.Prelude.{◌≡◌, ℕ};
+ghost use Rattle.rules.specs.Faces.{Face as Shown};
+ghost use Rattle.rules.specs.Rules.{after, detected_early, not_last_late};
+ghost use Rattle.face.specs.Readings.{bound_of, read};
+ghost use Rattle.face.specs.Shown.{shown};
+ghost use Rattle.face.specs.WhiteTrees.{but};
+ghost use Rattle.filtering.specs.Ends.{late_from, Each};
+ghost use Rattle.filtering.specs.Sets.{Filled, FilledBelow, under};
 
-use crate::sets::{greatest_end, is_above, least_gap, or_zero, others_under, sum, zeros};
+use crate::sets::{after, greatest_end, is_other_under};
 use changeover::Numbers;
-use face::{Reading, WhiteTree};
+use face::{Face, Reading, WhiteTree};
 
-// Puts in, by latest start from rank `from` on, the jobs that have to start before a limit: the rank of the first that is left out.
-fn fill<W: Numbers>(
-    reading: &Reading,
-    b: &W,
-    tree: &mut WhiteTree,
-    from: usize,
-    limit: u32,
-) -> usize
-    ensures { (low : ℕ) → low ≤ limit → Filled (read reading.now) (W.Numbers.at b.now) from low tree.old → Filled (read reading.now) (W.Numbers.at b.now) result limit tree.new }
-{
-    let mut q = from;
-    while q < reading.face().jobs() {
-        let j = reading.starting_job(q);
-        if reading.face().latest_start(j) >= limit {
-            return q;
+// A tree of the first jobs by latest start, and how many they are.
+#[derive(Drop)]
+struct Filling {
+    tree: WhiteTree,
+    count: usize,
+}
+
+impl Filling {
+    // The tree of no jobs.
+    fn new() -> Filling
+        ensures { (F : Shown) (b : ℕ → ℕ) → b 0 ≡ 0 → Filled F b result.count 0 result.tree }
+    {
+        Filling {
+            tree: WhiteTree::new(),
+            count: 0,
         }
-        tree.enter(reading, b, j);
-        q += 1;
     }
-    q
+
+    // Puts in the jobs that have to start before a limit.
+    fn fill<W: Numbers>(&mut self, reading: &Reading<'_, W>, limit: u32)
+        requires { FilledBelow (read reading.now) (W.Numbers.at (bound_of reading.now)) self.old.count limit self.old.tree }
+        ensures { Filled (read reading.now) (W.Numbers.at (bound_of reading.now)) self.new.count limit self.new.tree }
+    {
+        for q in self.count..reading.face().jobs() {
+            let j = reading.starting_job(q);
+            if reading.face().latest_start(j) >= limit {
+                return;
+            }
+            self.tree.enter(reading, j);
+            self.count += 1;
+        }
+    }
+
+    // When the other jobs than i that have to start before a limit, and the least gap from them to i, are over at the earliest.
+    fn after_others<W: Numbers>(
+        &mut self,
+        reading: &Reading<'_, W>,
+        i: usize,
+        limit: u32,
+    ) -> Option<u32>
+        requires { FilledBelow (read reading.now) (W.Numbers.at (bound_of reading.now)) self.old.count limit self.old.tree }
+        ensures value { result ≡ after (read reading.now) (W.Numbers.at (bound_of reading.now)) (but i (under (read reading.now) limit)) i }
+        ensures filled { Filled (read reading.now) (W.Numbers.at (bound_of reading.now)) self.new.count limit self.new.tree }
+    {
+        self.fill(reading, limit);
+        let finish = self.tree.finish_without(reading, i);
+        let face = reading.face();
+        after(face, finish, |k| is_other_under(face, i, limit, k), i)
+    }
 }
 
 // Each job's early end after the jobs that have to come before it.
-pub(crate) fn detected_earlies<W: Numbers>(reading: &Reading, b: &W) -> [u32; 32]
-    ensures { (i : ℕ) → i < (read reading.now).n → slice_index result i ≡ detected_early (read reading.now) (W.Numbers.at b.now) i }
+// A loop, not a map: each turn fills the tree of the turns before it further.
+pub(crate) fn detected_earlies<W: Numbers>(reading: &Reading<'_, W>) -> [u32; 32]
+    ensures { Each (read reading.now).n (detected_early (read reading.now) (W.Numbers.at (bound_of reading.now))) result }
 {
-    let face = reading.face();
-    let mut out = zeros();
-    let mut tree = WhiteTree::new();
-    let mut q = 0;
-    for t in 0..face.jobs() {
+    let mut early = [0; 32];
+    let mut filling = Filling::new();
+    for t in 0..reading.face().jobs() {
         let i = reading.finishing_job(t);
-        let limit = face.earliest_finish(i);
-        q = fill(reading, b, &mut tree, q, limit);
-        let finish = tree.finish_without(reading, b, i);
-        let gap = least_gap(face, &others_under(face, i, limit), i);
-        out[i] = or_zero(sum(finish, gap));
+        let limit = reading.face().earliest_finish(i);
+        early[i] = filling.after_others(reading, i, limit).unwrap_or(0);
     }
-    out
+    early
+}
+
+// A job's late end where the others that have to start before it, and the least gap after them, are over at such a time.
+fn not_last_late(face: &Face, i: usize, over: Option<u32>) -> u32
+    ensures { result ≡ late_from (shown face.now) over i }
+{
+    let late = face.late(i);
+    if over.is_some_and(|end| end > face.latest_start(i)) {
+        greatest_end(face, |k| is_other_under(face, i, late, k), i)
+    } else {
+        late
+    }
 }
 
 // Each job's late end before the jobs of which one has to come after it.
-pub(crate) fn not_last_lates<W: Numbers>(reading: &Reading, b: &W) -> [u32; 32]
-    ensures { (i : ℕ) → i < (read reading.now).n → slice_index result i ≡ not_last_late (read reading.now) (W.Numbers.at b.now) i }
+// A loop, not a map: each turn fills the tree of the turns before it further.
+pub(crate) fn not_last_lates<W: Numbers>(reading: &Reading<'_, W>) -> [u32; 32]
+    ensures { Each (read reading.now).n (not_last_late (read reading.now) (W.Numbers.at (bound_of reading.now))) result }
 {
-    let face = reading.face();
-    let mut out = zeros();
-    let mut tree = WhiteTree::new();
-    let mut q = 0;
-    for t in 0..face.jobs() {
+    let mut late = [0; 32];
+    let mut filling = Filling::new();
+    for t in 0..reading.face().jobs() {
         let i = reading.late_job(t);
-        let limit = face.late(i);
-        q = fill(reading, b, &mut tree, q, limit);
-        let finish = tree.finish_without(reading, b, i);
-        let rivals = others_under(face, i, limit);
-        let after = sum(finish, least_gap(face, &rivals, i));
-        let mut end = limit;
-        if is_above(after, face.latest_start(i)) {
-            end = greatest_end(face, &rivals, i);
-        }
-        out[i] = end;
+        let limit = reading.face().late(i);
+        let over = filling.after_others(reading, i, limit);
+        late[i] = not_last_late(reading.face(), i, over);
     }
-    out
+    late
 }

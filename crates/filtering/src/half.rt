@@ -4,30 +4,23 @@ ghost use Rattle.rules.specs.Rules.{half_round};
 ghost use Rattle.face.specs.Shown.{shown};
 ghost use Rattle.filtering.specs.Ends.{half_of};
 
-use crate::outcome::HalfEnd;
-use crate::overload::overload_check;
-use crate::pairs::first_clash;
-use crate::shorten::{new_ends, shortened};
+use crate::overload::check_load;
+use crate::pairs::check_pairs;
+use crate::shorten::check_room;
 use changeover::Numbers;
 use face::{Face, Reading};
+use rules::Overload;
 
 // A half round: the tests, then the new windows of all rules together.
-pub(crate) fn half_round<W: Numbers>(face: &Face, b: &W) -> HalfEnd
+pub(crate) fn half_round<W: Numbers>(face: &Face, b: &W) -> Result<Face, Overload>
     ensures { half_of result ≡ half_round (shown face.now) (W.Numbers.at b.now) }
 {
-    if let Some(overload) = first_clash(face) {
-        return HalfEnd::Overloaded(overload);
-    }
-    let reading = Reading::of(face);
-    if let Some(overload) = overload_check(&reading, b) {
-        return HalfEnd::Overloaded(overload);
-    }
-    let ends = new_ends(&reading, b);
-    if let Some(overload) = shortened(face, &ends.early, &ends.late) {
-        return HalfEnd::Overloaded(overload);
-    }
-    let Some(next) = face.with_windows(&ends.early, &ends.late) else {
+    check_pairs(face)?;
+    let calm = check_load(Reading::of(face, b))?;
+    let windows = calm.new_windows();
+    check_room(face, &windows)?;
+    let Some(next) = face.with_windows(&windows) else {
         unreachable()
     };
-    HalfEnd::GoesOn(next)
+    Ok(next)
 }

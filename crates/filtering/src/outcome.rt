@@ -1,19 +1,12 @@
-// How half rounds, rounds and settling end.
+// How rounds and settling end.
 use face::Face;
-use rules::{Cause, Overload, Window};
+use rules::{Cause, Window};
 
-// How a half round ends: overloaded, or with new windows.
+// Why a round stops, and the windows that its overloaded half round read.
 #[derive(Drop)]
-pub(crate) enum HalfEnd {
-    Overloaded(Overload),
-    GoesOn(Face),
-}
-
-// How a round ends: overloaded, with the windows that its half round read, or with new windows.
-#[derive(Drop)]
-pub(crate) enum RoundEnd {
-    Stops(Cause, Face),
-    Leaves(Face),
+pub(crate) struct Stopped {
+    pub(crate) cause: Cause,
+    pub(crate) held: Face,
 }
 
 // How settling ends.

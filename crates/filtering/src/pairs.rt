@@ -1,9 +1,9 @@
 // Pairs of jobs: those that exclude each other, and those of which one has to come first.
-ghost use Rattle.std.specs.Prelude.{◌≡◌, ℕ, ◌<◌, ◌≤◌, not, ◌&&◌, ◌==◌, slice_index};
-ghost use Rattle.rules.specs.Places.{first_such};
+ghost use Rattle.std.specs.Prelude.{◌≡◌, ◌≤◌, not, ◌&&◌, ◌==◌};
 ghost use Rattle.rules.specs.Rules.{can_precede, clash, clashing, pair_early};
 ghost use Rattle.face.specs.Shown.{shown};
-ghost use Rattle.filtering.specs.Pairs.{over_for};
+ghost use Rattle.filtering.specs.Ends.{verdict};
+ghost use Rattle.filtering.specs.Pairs.{over_for, first_with};
 
 use face::Face;
 use rules::Overload;
@@ -32,28 +32,22 @@ fn is_clash(face: &Face, i: usize, j: usize) -> bool
     i < j && !can_precede(face, i, j) && !can_precede(face, j, i)
 }
 
-// The first job of a higher card that clashes with job i.
-fn first_with(face: &Face, i: usize) -> Option<usize>
-    ensures { result ≡ first_such (clash (shown face.now) i) (shown face.now).n }
+// The first pair of job i and a job of a higher card that clash.
+fn first_with(face: &Face, i: usize) -> Option<Overload>
+    ensures { result ≡ first_with (shown face.now) i }
 {
-    for j in 0..face.jobs() {
-        if is_clash(face, i, j) {
-            return Some(j);
-        }
-    }
-    None
+    (0..face.jobs())
+        .find(|&j| is_clash(face, i, j))
+        .map(|j| Overload::NeitherFirst(i, j))
 }
 
-// The lowest pair of jobs that clash.
-pub(crate) fn first_clash(face: &Face) -> Option<Overload>
-    ensures { result ≡ clashing (shown face.now) }
+// Refuses the lowest pair of jobs that clash.
+pub(crate) fn check_pairs(face: &Face) -> Result<(), Overload>
+    ensures { result ≡ verdict (clashing (shown face.now)) }
 {
-    for i in 0..face.jobs() {
-        if let Some(j) = first_with(face, i) {
-            return Some(Overload::NeitherFirst(i, j));
-        }
-    }
-    None
+    (0..face.jobs())
+        .find_map(|i| first_with(face, i))
+        .map_or(Ok(()), Err)
 }
 
 // Whether job j has to come before job i, since i cannot precede it.
@@ -64,25 +58,11 @@ fn has_to_precede(face: &Face, j: usize, i: usize) -> bool
 }
 
 // The early end that the pairs of job i leave to it.
-fn pair_early(face: &Face, i: usize) -> u32
+pub(crate) fn pair_early(face: &Face, i: usize) -> u32
     ensures { result ≡ pair_early (shown face.now) i }
 {
-    let mut best: u32 = 0;
-    for j in 0..face.jobs() {
-        if has_to_precede(face, j, i) {
-            best = best.max(over_for(face, j, i));
-        }
-    }
-    best
-}
-
-// The early ends that pairs leave to the jobs.
-pub(crate) fn pair_earlies(face: &Face) -> [u32; 32]
-    ensures { (i : ℕ) → i < (shown face.now).n → slice_index result i ≡ pair_early (shown face.now) i }
-{
-    let mut earlies = [0; 32];
-    for i in 0..face.jobs() {
-        earlies[i] = pair_early(face, i);
-    }
-    earlies
+    (0..face.jobs())
+        .filter(|&j| has_to_precede(face, j, i))
+        .map(|j| over_for(face, j, i))
+        .fold(0, u32::max)
 }

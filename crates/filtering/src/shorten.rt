@@ -1,90 +1,74 @@
 // The windows that the rules leave when they take effect together.
-ghost use Rattle.std.specs.Prelude.{◌≡◌, ℕ, ◌+◌, ◌<◌, ltb, None, nat_lt, slice_index};
+ghost use Rattle.std.specs.Prelude.{◌≡◌, ℕ, ◌+◌, min, nat_lt};
+ghost use Rattle.rules.specs.Faces.{of_job};
 ghost use Rattle.rules.specs.Places.{first_such};
-ghost use Rattle.rules.specs.Rules.{overloading, new_early, new_late, shortened};
-ghost use Rattle.face.specs.Shown.{shown};
-ghost use Rattle.face.specs.Readings.{read};
+ghost use Rattle.rules.specs.Rules.{shortened};
+ghost use Rattle.face.specs.Readings.{bound_of, read};
+ghost use Rattle.face.specs.Shown.{early_end, late_end, shown};
+ghost use Rattle.filtering.specs.Ends.{early_from, Ruled, verdict};
 
 use crate::detected::{detected_earlies, not_last_lates};
-use crate::edges::edge_earlies;
-use crate::pairs::pair_earlies;
+use crate::overload::Calm;
+use crate::pairs::pair_early;
 use changeover::Numbers;
-use face::{Face, Reading};
-use rules::Overload;
+use face::Face;
+use rules::{Overload, Window};
+use std::array;
 
-// The early ends that the rules leave.
-pub(crate) fn new_earlies<W: Numbers>(reading: &Reading, b: &W) -> [u32; 32]
-    requires { overloading (read reading.now) (W.Numbers.at b.now) ≡ None }
-    ensures { (i : ℕ) → i < (read reading.now).n → slice_index result i ≡ new_early (read reading.now) (W.Numbers.at b.now) i }
+// The early end that the rules leave to job i, where detectable precedences and edge finding leave these; 0 to what is no job.
+fn new_early(face: &Face, i: usize, detected: u32, edge: u32) -> u32
+    ensures { result ≡ of_job (shown face.now).n (early_from (shown face.now) detected edge) i }
 {
-    let face = reading.face();
-    let pairs = pair_earlies(face);
-    let detected = detected_earlies(reading, b);
-    let edges = edge_earlies(reading, b);
-    let mut earlies = [0; 32];
-    for i in 0..face.jobs() {
-        earlies[i] = face.early(i).max(pairs[i]).max(detected[i]).max(edges[i]);
+    if i < face.jobs() {
+        face.early(i)
+            .max(pair_early(face, i))
+            .max(detected)
+            .max(edge)
+    } else {
+        0
     }
-    earlies
 }
 
-// The late ends that the rules leave.
-pub(crate) fn new_lates<W: Numbers>(reading: &Reading, b: &W) -> [u32; 32]
-    ensures { (i : ℕ) → i < (read reading.now).n → slice_index result i ≡ new_late (read reading.now) (W.Numbers.at b.now) i }
+// The window that the rules leave to job i, where detectable precedences, edge finding and not-last leave these ends.
+fn new_window(face: &Face, i: usize, detected: u32, edge: u32, not_last: u32) -> Window
+    ensures early { result.early ≡ of_job (shown face.now).n (early_from (shown face.now) detected edge) i }
+    ensures late { result.late ≡ min ((shown face.now).late i) not_last }
 {
-    let face = reading.face();
-    let not_last = not_last_lates(reading, b);
-    let mut lates = [0; 32];
-    for i in 0..face.jobs() {
-        lates[i] = face.late(i).min(not_last[i]);
-    }
-    lates
+    let early = new_early(face, i, detected, edge);
+    let late = face.late(i).min(not_last);
+    Window { early, late }
 }
 
-// The ends that the rules leave to the windows, by job.
-#[derive(Drop)]
-pub(crate) struct Ends {
-    pub(crate) early: [u32; 32],
-    pub(crate) late: [u32; 32],
-}
-
-// The ends that the rules leave, all from the windows as they were.
-pub(crate) fn new_ends<W: Numbers>(reading: &Reading, b: &W) -> Ends
-    requires { overloading (read reading.now) (W.Numbers.at b.now) ≡ None }
-    ensures early { (i : ℕ) → i < (read reading.now).n → slice_index result.early i ≡ new_early (read reading.now) (W.Numbers.at b.now) i }
-    ensures late { (i : ℕ) → i < (read reading.now).n → slice_index result.late i ≡ new_late (read reading.now) (W.Numbers.at b.now) i }
-{
-    Ends {
-        early: new_earlies(reading, b),
-        late: new_lates(reading, b),
+impl<W: Numbers> Calm<'_, W> {
+    // The windows that the rules leave, all from the windows as they were.
+    pub(crate) fn new_windows(&self) -> [Window; 32]
+        ensures { Ruled (read self.now.reading) (W.Numbers.at (bound_of self.now.reading)) result }
+    {
+        let face = self.reading.face();
+        let detected = detected_earlies(&self.reading);
+        let edges = self.edge_earlies();
+        let not_last = not_last_lates(&self.reading);
+        array::from_fn(|i| new_window(face, i, detected[i], edges[i], not_last[i]))
     }
 }
 
 // Whether a window has no room for so many minutes.
-fn is_short(early: u32, late: u32, duration: u32) -> bool
-    ensures { result ≡ nat_lt late (early + duration) }
+fn is_short(window: Window, duration: u32) -> bool
+    ensures { result ≡ nat_lt window.late (window.early + duration) }
 {
-    late < early || late - early < duration
+    window.late < window.early || window.late - window.early < duration
 }
 
 // The first job whose new window is shorter than its duration.
-fn first_short(face: &Face, early: &[u32; 32], late: &[u32; 32]) -> Option<usize>
-    ensures { result ≡ first_such (λ i. ltb (slice_index late.now i) (slice_index early.now i + (shown face.now).duration i)) (shown face.now).n }
+fn first_short(face: &Face, windows: &[Window; 32]) -> Option<usize>
+    ensures { result ≡ first_such (λ i. nat_lt (late_end windows.now i) (early_end windows.now i + (shown face.now).duration i)) (shown face.now).n }
 {
-    for i in 0..face.jobs() {
-        if is_short(early[i], late[i], face.duration(i)) {
-            return Some(i);
-        }
-    }
-    None
+    (0..face.jobs()).find(|&i| is_short(windows[i], face.duration(i)))
 }
 
-// The first job whose window the rules, with some numbers, leave shorter than its duration.
-pub(crate) fn shortened(face: &Face, early: &[u32; 32], late: &[u32; 32]) -> Option<Overload>
-    ensures { (b : ℕ → ℕ) → ((i : ℕ) → i < (shown face.now).n → slice_index early.now i ≡ new_early (shown face.now) b i) → ((i : ℕ) → i < (shown face.now).n → slice_index late.now i ≡ new_late (shown face.now) b i) → result ≡ shortened (shown face.now) b }
+// Refuses the first job whose window the rules, with some numbers, leave shorter than its duration.
+pub(crate) fn check_room(face: &Face, windows: &[Window; 32]) -> Result<(), Overload>
+    ensures { (b : ℕ → ℕ) → Ruled (shown face.now) b windows.now → result ≡ verdict (shortened (shown face.now) b) }
 {
-    match first_short(face, early, late) {
-        Some(i) => Some(Overload::TooShort(i)),
-        None => None,
-    }
+    first_short(face, windows).map_or(Ok(()), |i| Err(Overload::TooShort(i)))
 }

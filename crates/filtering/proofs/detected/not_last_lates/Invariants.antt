@@ -1,14 +1,10 @@
-use Rattle.std.proofs.Common.{◌≡◌, ℕ, ◌<◌, ◌≤◌, length, get_or}
 use Rattle.rules.specs.Rules.{not_last_late}
-use Rattle.face.specs.Readings.{read}
-use Rattle.face.specs.Orders.{rank}
-use Rattle.filtering.specs.Sets.{Filled}
+use Rattle.face.specs.Readings.{bound_of, read}
+use Rattle.filtering.proofs.Fillings.{Progress}
 use Rattle.filtering.proofs.detected.not_last_lates.Given as goal
 
 abbrev pub invariant-loop-t : goal.invariant-loop-t
 invariant-loop-t g l =
-    (length l.out ≡ 32)
-    × ((i : ℕ) → i < (read l.reading).n → rank (read l.reading).n (read l.reading).late i < l.t → get_or l.out i 0 ≡ not_last_late (read l.reading) (g.W.Numbers.at l.b) i)
-    × ((low : ℕ)
-    × Filled (read l.reading) (g.W.Numbers.at l.b) l.q low l.tree
-    × ((i : ℕ) → i < (read l.reading).n → l.t ≤ rank (read l.reading).n (read l.reading).late i → low ≤ (read l.reading).late i))
+    let F = read l.reading in
+    let b = g.W.Numbers.at (bound_of l.reading) in
+    Progress F b F.late (not_last_late F b) l.t l.late l.filling.count l.filling.tree

@@ -1,50 +1,52 @@
-use Rattle.std.proofs.Common.{get_or, Some, None}
-use Rattle.rules.specs.Rules.{new_early, new_late}
-use Rattle.face.specs.Shown.{shown}
+use Rattle.std.proofs.Common.{◌≡◌, Err, Some, None, sym, ap, ◌∙◌, rules}
+use Rattle.rules.specs.Rules.{overloading, new_early, new_late}
+use Rattle.face.specs.Readings.{bound_of}
+use Rattle.face.specs.Shown.{early_end, late_end, shown}
 use Rattle.face.proofs.Fines.{fine}
-use Rattle.face.specs.Readings.{read}
-use Rattle.filtering.proofs.Halving.{half_clash, half_overload, half_short, half_on, windows_same, overloading_same, of_same, none_out}
+use Rattle.filtering.specs.Ends.{half_of, Ruled}
+use Rattle.filtering.proofs.Halving.{half_clash, half_overload, half_short, half_on, windows_same, none_out, found_some, found_none, ruled_by, calm_by}
 use Rattle.filtering.proofs.half.half_round.Goals as goal
 
-pub returns-in-Some : goal.returns-in-Some
-returns-in-Some g c = half_clash (shown c.args.face.now) (g.W.Numbers.at c.args.b.now) c.in-Some.overload c.in-Some.ensures
+pub returns-in_err-check_pairs : goal.returns-in_err-check_pairs
+returns-in_err-check_pairs g c =
+    let x = c.in_err-check_pairs.field-0.0 in
+    let told : c.from_residual.result ≡ Err x = search rules in
+    ap half_of told ∙ half_clash (shown c.args.face.now) (g.W.Numbers.at c.args.b.now) x (found_some x _ c.in_err-check_pairs.ensures)
 
-pub returns-in-Some-overload_check : goal.returns-in-Some-overload_check
-returns-in-Some-overload_check g c =
+pub returns-in_err-calm : goal.returns-in_err-calm
+returns-in_err-calm g c =
     let F = shown c.args.face.now in
     let b = g.W.Numbers.at c.args.b.now in
-    let x = c.in-Some-overload_check.overload in
-    half_overload F b c.in_default.ensures x (overloading_same F (read c.of-reading.result) b (Some x) c.of-reading.ensures c.in-Some-overload_check.ensures)
+    let x = c.in_err-calm.field-0.0 in
+    let told : c.from_residual-in_err-calm.result ≡ Err x = search rules in
+    let found : Some x ≡ overloading F b = sym c.in_err-calm.ensures ∙ ap (λ X. overloading X (g.W.Numbers.at (bound_of c.of.result))) c.of.ensures.face ∙ ap (λ w. overloading F (g.W.Numbers.at w)) c.of.ensures.bound in
+    ap half_of told ∙ half_overload F b (found_none _ c.in_ok-check_pairs.ensures) x found
 
-pub returns-in-Some-shortened : goal.returns-in-Some-shortened
-returns-in-Some-shortened g c =
+pub returns-in_err-check_room : goal.returns-in_err-check_room
+returns-in_err-check_room g c =
     let F = shown c.args.face.now in
-    let G = read c.of-reading.result in
     let b = g.W.Numbers.at c.args.b.now in
-    let opens = of_same F G (λ X. new_early X b) c.new_ends-ends.result.early c.of-reading.ensures c.new_ends-ends.ensures.early in
-    let closes = of_same F G (λ X. new_late X b) c.new_ends-ends.result.late c.of-reading.ensures c.new_ends-ends.ensures.late in
-    let none = overloading_same F G b None c.of-reading.ensures c.in_default-overload_check.ensures in
-    half_short F b c.in_default.ensures c.in-Some-shortened.overload none (c.in-Some-shortened.ensures b opens closes)
+    let at = g.W.Numbers.at in
+    let x = c.in_err-check_room.field-0.0 in
+    let told : c.from_residual-in_err-check_room.result ≡ Err x = search rules in
+    let ruled : Ruled F b c.new_windows-windows.result = ruled_by at F c.args.b.now c.of.result c.in_ok-calm.calm.reading c.of.ensures.face c.of.ensures.bound c.in_ok-calm.ensures c.new_windows-windows.result c.new_windows-windows.ensures in
+    let none : None ≡ overloading F b = calm_by at F c.args.b.now c.of.result c.in_ok-calm.calm.reading c.of.ensures.face c.of.ensures.bound c.in_ok-calm.ensures c.in_ok-calm.calm.calm in
+    ap half_of told ∙ half_short F b (found_none _ c.in_ok-check_pairs.ensures) x none (found_some x _ (c.in_err-check_room.ensures b ruled))
 
 pub unreachable-requires : goal.unreachable-requires
 unreachable-requires g c =
     let F = shown c.args.face.now in
-    let G = read c.of-reading.result in
     let b = g.W.Numbers.at c.args.b.now in
-    let opens = of_same F G (λ X. new_early X b) c.new_ends-ends.result.early c.of-reading.ensures c.new_ends-ends.ensures.early in
-    let closes = of_same F G (λ X. new_late X b) c.new_ends-ends.result.late c.of-reading.ensures c.new_ends-ends.ensures.late in
-    none_out F b c.new_ends-ends.result.early c.new_ends-ends.result.late (fine c.args.face.now) (c.in_default-shortened.ensures b opens closes) opens closes c.in_default-with_windows.ensures
+    let at = g.W.Numbers.at in
+    let ruled : Ruled F b c.new_windows-windows.result = ruled_by at F c.args.b.now c.of.result c.in_ok-calm.calm.reading c.of.ensures.face c.of.ensures.bound c.in_ok-calm.ensures c.new_windows-windows.result c.new_windows-windows.ensures in
+    none_out F b c.new_windows-windows.result (fine c.args.face.now) (found_none _ (c.in_ok-check_room.ensures b ruled)) ruled c.in_default.ensures
 
 pub returns : goal.returns
 returns g c =
     let F = shown c.args.face.now in
-    let G = read c.of-reading.result in
-    let H = shown c.in-Some-with_windows.next in
     let b = g.W.Numbers.at c.args.b.now in
-    let early = c.new_ends-ends.result.early in
-    let late = c.new_ends-ends.result.late in
-    let opens = of_same F G (λ X. new_early X b) early c.of-reading.ensures c.new_ends-ends.ensures.early in
-    let closes = of_same F G (λ X. new_late X b) late c.of-reading.ensures c.new_ends-ends.ensures.late in
-    let none = overloading_same F G b None c.of-reading.ensures c.in_default-overload_check.ensures in
-    let windows = windows_same F (λ j. get_or early j 0) (new_early F b) (λ j. get_or late j 0) (new_late F b) opens closes H c.in-Some-with_windows.ensures.1 in
-    half_on F b c.in_default.ensures none (c.in_default-shortened.ensures b opens closes) H windows
+    let at = g.W.Numbers.at in
+    let ruled : Ruled F b c.new_windows-windows.result = ruled_by at F c.args.b.now c.of.result c.in_ok-calm.calm.reading c.of.ensures.face c.of.ensures.bound c.in_ok-calm.ensures c.new_windows-windows.result c.new_windows-windows.ensures in
+    let none : None ≡ overloading F b = calm_by at F c.args.b.now c.of.result c.in_ok-calm.calm.reading c.of.ensures.face c.of.ensures.bound c.in_ok-calm.ensures c.in_ok-calm.calm.calm in
+    let windows = windows_same F (early_end c.new_windows-windows.result) (new_early F b) (late_end c.new_windows-windows.result) (new_late F b) (λ i h. (ruled i h).0) (λ i h. (ruled i h).1) (shown c.in-Some.next) c.in-Some.ensures.1 in
+    half_on F b (found_none _ c.in_ok-check_pairs.ensures) none (found_none _ (c.in_ok-check_room.ensures b ruled)) (shown c.in-Some.next) windows

@@ -1,25 +1,16 @@
-use Rattle.std.proofs.Common.{sym, ap, ◌∙◌, arith}
-use Rattle.rules.specs.Rules.{greatest}
+use Rattle.std.proofs.Common.{rules, max, not, ◌&&◌, ◌==◌, ap, ◌∙◌}
+use borrow.Author.Tests.{tests}
+use Rattle.changeover.proofs.Chains.{folded}
+use Rattle.rules.specs.Rules.{can_precede, pair_early}
 use Rattle.face.specs.Shown.{shown}
-use Rattle.filtering.proofs.Finds.{greatest_start, greatest_takes, greatest_keeps}
-use Rattle.filtering.proofs.Halving.{comes_first, after_it, pair_early_is}
+use Rattle.filtering.specs.Pairs.{over_for}
+use Rattle.filtering.proofs.Finds.{greatest_from}
 use Rattle.filtering.proofs.pairs.pair_early.Goals as goal
-use Rattle.filtering.proofs.pairs.pair_early.Goals.{then-has_to_precede, else-has_to_precede}
-
-pub loop-j-init : goal.loop-j-init
-loop-j-init c = let F = shown c.args.face.now in sym (greatest_start (comes_first F c.args.i) (after_it F c.args.i))
-
-pub loop-j-preserved : goal.loop-j-preserved
-loop-j-preserved c =
-    let F = shown c.args.face.now in
-    let i = c.args.i in
-    let j = c.loop-j.j in
-    elim c.if-has_to_precede.branch [
-      | then-has_to_precede w ↦ omega (arith, w.best-is, w.max-best.ensures, w.over_for.ensures.value, c.loop-j.invariant, greatest_takes (comes_first F i) (after_it F i) j w.if-has_to_precede.ensures)
-      | else-has_to_precede w ↦ w.best-is ∙ c.loop-j.invariant ∙ sym (greatest_keeps (comes_first F i) (after_it F i) j w.if-has_to_precede.ensures)
-    ]
 
 pub returns : goal.returns
+unfolding pair_early
 returns c =
     let F = shown c.args.face.now in
-    c.loop-j.invariant ∙ ap (greatest (comes_first F c.args.i) (after_it F c.args.i)) (omega (arith, c.jobs-j-end.ensures.value)) ∙ pair_early_is F c.args.i
+    let i = c.args.i in
+    folded _ _ _ c.fold.result 0 max (λ j. over_for F j i) (λ j. not (j == i) && not (can_precede F i j)) F.n c.fold.ensures.runs c.map.ensures.runs c.filter.ensures.runs (ap (λ n. record { start = 0; end = n }) c.jobs.ensures.value) (λ x y r q k. search (rules, tests)) (λ x r q k. search (rules, tests)) (λ x r q k. search (rules, tests))
+    ∙ greatest_from (λ j. not (j == i) && not (can_precede F i j)) (λ j. over_for F j i) F.n

@@ -1,34 +1,29 @@
-use Rattle.std.proofs.Common.{sym, ap, ◌∙◌, subst, arith}
-use Rattle.rules.specs.Rules.{lesser, least_over}
+use Rattle.std.proofs.Common.{ℕ, ◌∙◌, Some, None, Option, sym, subst, ap, rules}
+use Rattle.std.specs.List.{fold}
+use Rattle.changeover.proofs.Chains.{folded}
+use Rattle.changeover.proofs.Tables.{gap_small}
+use Rattle.rules.specs.Rules.{lesser}
 use Rattle.face.specs.Shown.{shown}
 use Rattle.filtering.specs.Sets.{AtMost}
-use Rattle.filtering.proofs.Members.{least_none, least_takes, least_keeps, lesser_small}
+use Rattle.filtering.proofs.Finds.{least_from, fold_small}
 use Rattle.filtering.proofs.sets.least_gap.Goals as goal
-use Rattle.filtering.proofs.sets.least_gap.Goals.{then-flags-k, else-flags-k}
 
-pub loop-k-init : goal.loop-k-init
-loop-k-init c = (tt, λ S _. least_none S (λ j. (shown c.args.face.now).gap j c.args.i))
-
-pub loop-k-preserved : goal.loop-k-preserved
-loop-k-preserved c =
+pub returns-clause-exact : goal.returns-clause-exact
+returns-clause-exact g c =
     let F = shown c.args.face.now in
-    let k = c.loop-k.k in
-    let i = c.args.i in
-    elim c.if-flags-k.branch [
-      | then-flags-k w ↦ (
-        subst (AtMost 12000) (sym w.least-is) (let l = lesser_small 12000 w.gap.result c.loop-k.least c.loop-k.invariant.0 w.gap.ensures.small in omega (arith, w.lesser.ensures)),
-        λ S flags.
-            w.least-is
-            ∙ least_takes S (λ j. F.gap j i) k w.lesser.result c.loop-k.least (sym (flags k (omega arith)) ∙ w.if-flags-k.true) (w.lesser.ensures ∙ ap (lesser c.loop-k.least) w.gap.ensures.value) (c.loop-k.invariant.1 S flags),
-      )
-      | else-flags-k w ↦ (
-        subst (AtMost 12000) (sym w.least-is) c.loop-k.invariant.0,
-        λ S flags. w.least-is ∙ least_keeps S (λ j. F.gap j i) k c.loop-k.least (sym (flags k (omega arith)) ∙ w.if-flags-k.false) (c.loop-k.invariant.1 S flags),
-      )
-    ]
+    let val : ℕ → ℕ = λ k. F.gap k c.args.i in
+    let with_less : Option ℕ → ℕ → Option ℕ = λ o x. Some (lesser o x) in
+    λ S same.
+    folded _ _ _ c.fold.result None with_less val S F.n c.fold.ensures.runs c.map.ensures.runs c.filter.ensures.runs (ap (λ n. record { start = 0; end = n }) c.jobs.ensures.value) (λ x y r q k. search rules) (λ x r q k. search rules) (λ x r q k. (search rules, same x r (search rules)))
+    ∙ least_from S val F.n
 
-pub returns : goal.returns
-returns c = record {
-  small = c.loop-k.invariant.0;
-  value = λ S flags. c.loop-k.invariant.1 S flags ∙ ap (least_over S (λ j. (shown c.args.face.now).gap j c.args.i)) (omega arith);
-}
+pub returns-clause-small : goal.returns-clause-small
+unfolding shown
+returns-clause-small g c =
+    let F = shown c.args.face.now in
+    let val : ℕ → ℕ = λ k. F.gap k c.args.i in
+    let with_less : Option ℕ → ℕ → Option ℕ = λ o x. Some (lesser o x) in
+    let all = c.fold.ensures.runs in
+    let kept = c.map.ensures.runs all.0 all.0.seen all.1 in
+    let is = all.3 with_less (λ x y r q k. search rules) ∙ ap (fold with_less None) (kept.2.3 val (λ x r q k. search rules)) in
+    subst (AtMost 12000) (sym is) (fold_small 12000 val kept.0.items None (λ j. gap_small c.args.face.now.gaps j c.args.i) tt)
