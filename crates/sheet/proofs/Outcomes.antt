@@ -31,5 +31,5 @@ outcome_is f B F same = ap (λ (G : Face). settled (f G.n G.gap) G) same
 pub same_sheet : (B : Book) {held held' : List Window} {status status' : Status} {rounds rounds' : ℕ} → held ≡ held' → status ≡ status' → rounds ≡ rounds' → ◌≡◌ {A = Model} (record { book = B; held = held; status = status; rounds = rounds }) (record { book = B; held = held'; status = status'; rounds = rounds' })
 same_sheet B held_are status_is rounds_are = λ r. record { book = B; held = held_are r; status = status_is r; rounds = rounds_are r }
 
-pub same_answer : {status status' : Status} {rounds rounds' : ℕ} {cause cause' : Option Cause} → status ≡ status' → rounds ≡ rounds' → cause ≡ cause' → ◌≡◌ {A = Settlement} (record { status = status; rounds = rounds; cause = cause }) (record { status = status'; rounds = rounds'; cause = cause' })
-same_answer status_is rounds_are cause_is = λ r. record { status = status_is r; rounds = rounds_are r; cause = cause_is r }
+pub same_answer : {rounds rounds' : ℕ} {cause cause' : Option Cause} → rounds ≡ rounds' → cause ≡ cause' → ◌≡◌ {A = Settlement} (record { rounds = rounds; cause = cause }) (record { rounds = rounds'; cause = cause' })
+same_answer rounds_are cause_is = λ r. record { rounds = rounds_are r; cause = cause_is r }

@@ -7,5 +7,9 @@ pub(crate) enum Accepted {
     Posted,
     Narrowed,
     Withdrawn,
-    Settled(Status, u32, [Window; 32]),
+    Settled {
+        status: Status,
+        rounds: u32,
+        held: [Window; 32],
+    },
 }

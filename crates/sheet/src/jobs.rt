@@ -21,7 +21,7 @@ pub(crate) fn check_room(duration: u32, window: Window) -> Result<(), JobRefusal
     ensures { result ≡ room_answer duration window }
 {
     if window.early > window.late || window.late - window.early < duration {
-        return Err(JobRefusal::Room(window.early, window.late));
+        return Err(JobRefusal::Room(window));
     }
     Ok(())
 }

@@ -3,8 +3,7 @@
 
 mod accepted;
 mod jobs;
-mod lists;
-mod reading;
+mod rows;
 mod sheet;
 
 pub use jobs::check_job;

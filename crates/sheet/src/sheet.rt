@@ -7,7 +7,9 @@ use rules::{Job, Status, Window};
 
 mod accept;
 mod calls;
+mod in_order;
 mod parts;
+mod printing;
 mod questions;
 mod settling;
 
@@ -20,6 +22,7 @@ const NO_JOB: Job = Job {
 const NO_WINDOW: Window = Window { early: 0, late: 0 };
 
 // A job book and what is held of it. Jobs and windows stand by card, zeros where the card is not on the sheet.
+// Plain arrays by card place are a rule of the project: an accepted call makes the held array the posted one as a whole.
 #[derive(Clone, Copy)]
 pub struct Sheet {
     setups: u16,

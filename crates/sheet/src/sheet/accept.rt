@@ -14,7 +14,14 @@ impl Sheet {
         ensures { shown self.new ≡ accepting (shown self.old) call }
     {
         match (self.status, call) {
-            (_, Accepted::Settled(status, rounds, held)) => {
+            (
+                _,
+                Accepted::Settled {
+                    status,
+                    rounds,
+                    held,
+                },
+            ) => {
                 self.status = status;
                 self.rounds = rounds;
                 self.held = held;

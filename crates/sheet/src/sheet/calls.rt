@@ -7,7 +7,7 @@ ghost use Rattle.sheet.specs.Shown.{book_of, shown};
 
 use super::{NO_JOB, NO_WINDOW, Sheet};
 use crate::accepted::Accepted;
-use crate::reading::laid_out;
+use crate::rows::laid_out;
 use chain::Chain;
 use matrix::{MatrixRefusal, check_matrix};
 use rules::{CardRefusal, Job, Status, View, Window};

@@ -6,15 +6,14 @@ ghost use Rattle.chain.specs.Listed.{cards};
 ghost use Rattle.sheet.specs.Shown.{book_of, shown};
 
 use super::{NO_JOB, NO_WINDOW, Sheet};
-use crate::lists::at_or;
 use chain::Chain;
 use rules::{Job, Status, Window};
 
-// Where a card's job and windows stand.
-fn place_of(card: u16) -> usize
-    ensures { result ≡ card - 1 }
+// A card or a setup, counted from 0: where what is of it stands.
+pub(super) fn from_zero(number: u16) -> usize
+    ensures { result ≡ number - 1 }
 {
-    usize::from(card).saturating_sub(1)
+    usize::from(number).saturating_sub(1)
 }
 
 impl Sheet {
@@ -29,7 +28,7 @@ impl Sheet {
     pub fn changeover(&self, k: usize) -> u16
         ensures { result ≡ slice_index (book_of self.now).changeovers k }
     {
-        at_or(&self.changeovers, k, 0)
+        self.changeovers.get(k).copied().unwrap_or(0)
     }
 
     // The cards that are on the sheet, in posting order.
@@ -43,21 +42,24 @@ impl Sheet {
     pub fn job(&self, card: u16) -> Job
         ensures { result ≡ job_on (book_of self.now) card }
     {
-        at_or(&self.jobs, place_of(card), NO_JOB)
+        self.jobs.get(from_zero(card)).copied().unwrap_or(NO_JOB)
     }
 
     // The posted window of a card; zeros where the card is not on the sheet.
     pub fn posted(&self, card: u16) -> Window
         ensures { result ≡ posted_on (book_of self.now) card }
     {
-        at_or(&self.posted, place_of(card), NO_WINDOW)
+        self.posted
+            .get(from_zero(card))
+            .copied()
+            .unwrap_or(NO_WINDOW)
     }
 
     // The held window of a card; zeros where the card is not on the sheet.
     pub fn held(&self, card: u16) -> Window
         ensures { result ≡ held_on (shown self.now) card }
     {
-        at_or(&self.held, place_of(card), NO_WINDOW)
+        self.held.get(from_zero(card)).copied().unwrap_or(NO_WINDOW)
     }
 
     pub fn status(&self) -> Status

@@ -46,7 +46,7 @@ impl Sheet {
         self.has_card(card)?;
         let place = usize::from(card) - 1;
         if !lies_inside(window, self.posted[place]) {
-            return Err(CardRefusal::Outside(window.early, window.late));
+            return Err(CardRefusal::Outside(window));
         }
         check_room(self.jobs[place].duration, window)?;
         Ok(())

@@ -1,6 +1,6 @@
 use Rattle.std.proofs.Common.{◌/◌, ◌%◌, arith}
 use Rattle.std.proofs.lemmas.Nat.{mul-add-lt}
-use Rattle.sheet.proofs.reading.laid_at.Goals as goal
+use Rattle.sheet.proofs.rows.laid_at.Goals as goal
 
 pub bounds-numbers-width : goal.bounds-numbers-width
 bounds-numbers-width c =
