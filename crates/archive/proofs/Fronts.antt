@@ -1,13 +1,13 @@
 -- Parts that are filled from the front, one write after another. Assumes nothing.
-use Rattle.std.proofs.Common.{◌≡◌, ℕ, ◌+◌, ◌*◌, ◌≤◌, List, [], ◌++◌, length, get_or, sym, refl, ap, ◌∙◌, zero-le, zero-add, add-one, arith}
+use Rattle.std.proofs.Common.{◌≡◌, ℕ, zero, suc, ◌+◌, ◌<◌, ◌≤◌, List, [], ◌∷◌, ◌++◌, length, get_or, take, sym, refl, ap, ◌∙◌, ap₂, zero-le, zero-add, add-one, arith, take_all}
 use borrow.Rule.Slice.PartMut.{put_mid}
 use lib.Seq.{paste}
 use Rattle.std.proofs.lemmas.List.Edits.{paste_none, paste-paste, paste_all}
-use Rattle.std.proofs.lemmas.List.{length-append, drop_all, append-nil}
+use Rattle.std.proofs.lemmas.List.{length-append, drop_all, append-nil, take_more, flat_map_more}
+use Rattle.std.specs.List.{flat_map}
 use Rattle.std.proofs.lemmas.Slice.{put_mid-paste}
 use Rattle.rules.specs.Models.{Model}
 use Rattle.rules.specs.Pages.{bytes16, joined, record_bytes}
-use Rattle.rules.proofs.PageBytes.{joined_long}
 
 -- a part that was `old` begins with xs now, and the rest is as it was
 pub record Front (old part xs : List ℕ) : Type 0 where
@@ -37,26 +37,19 @@ front_all {old} {part} {xs} front long =
     let past : length old ≤ 0 + length xs = omega arith in
     front.is ∙ (paste_all old 0 xs (length xs) refl ∙ rw (drop_all (0 + length xs) old past, append-nil xs))
 
--- the bytes of a number that is known to be y
-pub front_number : {old part after xs : List ℕ} {x y : ℕ} (bytes : ℕ → List ℕ) → x ≡ y → Front old part xs → after ≡ paste part (length xs) (bytes x) (length (bytes x)) → Front old after (xs ++ bytes y)
-front_number {old} {part} {after} {xs} {x} {y} bytes e front written =
-    front_more (length xs) (length (bytes y)) (bytes y) refl refl front (written ∙ ap (λ z. paste part (length xs) (bytes z) (length (bytes z))) e)
-
--- pieces of w bytes, one after another
-module _ (piece : ℕ → List ℕ) (w : ℕ) (wide : (k : ℕ) → length (piece k) ≡ w) where
-  pub joined_none : (old : List ℕ) → Front old old (joined piece 0)
+-- pieces, one after another
+module _ (piece : ℕ → List ℕ) (pieces : List (List ℕ)) where
+  joined_front : (n : ℕ) → n ≤ length pieces → ((k : ℕ) → k < n → get_or pieces k [] ≡ piece k) → flat_map (λ xs. xs) (take n pieces) ≡ joined piece n
   unfolding joined
-  joined_none old = front_none old
+  joined_front zero h each = refl
+  joined_front (suc n) h each =
+      let more : take (suc n) pieces ≡ take n pieces ++ get_or pieces n [] ∷ [] = rw (← add-one) (take_more pieces n [] (omega arith)) in
+      ap (flat_map (λ (xs : List ℕ). xs)) more
+      ∙ sym (flat_map_more (λ (xs : List ℕ). xs) [] (take n pieces) (get_or pieces n []))
+      ∙ ap₂ (λ (xs ys : List ℕ). xs ++ ys) (joined_front n (omega arith) (λ k l. each k (omega arith))) (each n (omega arith))
 
-  pub joined_more : {old part after : List ℕ} (k : ℕ) → Front old part (joined piece k) → after ≡ paste part (w * k) (piece k) w → Front old after (joined piece (k + 1))
-  unfolding joined
-  joined_more k front written =
-      rw add-one (front_more (w * k) w (piece k) (sym (joined_long piece w wide k)) (sym (wide k)) front written)
-
-  pub joined_all : {old part : List ℕ} (k n : ℕ) → Front old part (joined piece k) → n ≤ k → k ≤ n → length old ≡ w * n → part ≡ joined piece n
-  joined_all k n front low high long =
-      let e : k ≡ n = omega arith in
-      front_all (rw e at front) (long ∙ sym (joined_long piece w wide n))
+  pub joined_is : (n : ℕ) → length pieces ≡ n → ((k : ℕ) → k < n → get_or pieces k [] ≡ piece k) → flat_map (λ xs. xs) pieces ≡ joined piece n
+  joined_is n long each = ap (flat_map (λ (xs : List ℕ). xs)) (sym (take_all n pieces (omega arith))) ∙ joined_front n (omega arith) each
 
 -- the pieces of a page: changeovers, and records by card
 abbrev pub changeover_piece : Model → ℕ → List ℕ

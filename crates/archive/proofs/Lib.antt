@@ -1,6 +1,4 @@
-mod Parts
 mod Walks
-mod Passing
 mod Numbers
 mod Holding
 mod Posting
@@ -8,3 +6,4 @@ mod Wholes
 mod Loaded
 mod Fronts
 mod Nexts
+mod Strays

@@ -7,7 +7,7 @@ use Rattle.std.proofs.lemmas.List.FromFn.{fill_by_all, length-map-range_with_len
 use Rattle.rules.specs.declared.sheet.Job.{Job}
 use Rattle.rules.specs.declared.sheet.Window.{Window}
 use Rattle.rules.specs.Cards.{member, is_card, chained}
-use Rattle.rules.specs.Books.{Book, no_job, no_window, laid_out}
+use Rattle.rules.specs.Books.{no_job, no_window, laid_out}
 use Rattle.rules.specs.Models.{Model, fresh_book, reopened, make_leaves, post_answer, with_job}
 use Rattle.rules.specs.Pages.{le16, then, page_numbers, page_book, job_in, posted_in, jobs_pass}
 use Rattle.rules.specs.Histories.{posts, step}
@@ -17,7 +17,6 @@ use Rattle.matrix.specs.Matrix.{matrix_answer}
 use Rattle.rules.specs.declared.faults.PageFault.{PageFault}
 use Rattle.rules.specs.Faults.{of_matrix}
 use Rattle.archive.specs.Answers.{matrix_part}
-use Rattle.archive.proofs.Passing.{card_of}
 
 -- a sheet that was just made has the book of the page with no jobs
 pub fresh_page : (p : List ℕ) (m : ℕ) → fresh_book m (page_numbers p m) ≡ page_book p m []
@@ -32,6 +31,12 @@ matrix_made p m numbers M N m_is numbers_are accepted made =
     let sheet : M ≡ reopened (page_book p m []) = made ∙ left ∙ ap (λ (xs : List ℕ). reopened (fresh_book m xs)) numbers_are ∙ ap reopened (fresh_page p m) in
     let whole : ◌≡◌ {A = Result Model PageFault} (Ok M) (then of_matrix (matrix_answer m (page_numbers p m)) (λ _. Ok (reopened (page_book p m [])))) = rw accepted' (ap (λ (x : Model). let r : Result Model PageFault = Ok x in r) sheet) in
     whole ∙ ap (λ (k : ℕ). then of_matrix (matrix_answer k (page_numbers p k)) (λ _. Ok (reopened (page_book p k [])))) m_is
+
+-- each of a chain is a card
+card_of : (ks : List ℕ) (i : ℕ) → chained ks ≡ true → i < length ks → is_card (get_or ks i 0) ≡ true
+card_of [] i good h = absurd (omega arith)
+card_of (k ∷ ks) zero good h = (parts k ks good).card
+card_of (k ∷ ks) (suc i) good h = card_of ks i (parts k ks good).rest (omega arith)
 
 -- the card at a place of a chain is in it, and not before
 member_at : (ks : List ℕ) (i : ℕ) → i < length ks → member (get_or ks i 0) ks ≡ true
@@ -118,7 +123,3 @@ matrix_sheet p M m m_is found =
           is ∙ ap (λ (n : ℕ). reopened (page_book p n [])) (sym setups_are)
       | Err y ↦ λ e. absurd (let z : ◌≡◌ {A = ℕ} 0 1 = cc in omega arith)
     ] found
-
--- an open sheet is what its book makes it
-pub open_sheet : (M : Model) (B : Book) → M ≡ reopened B → M ≡ reopened M.book
-open_sheet M B is = is ∙ ap reopened (sym (ap (λ (N : Model). N.book) is))

@@ -3,26 +3,41 @@ use Rattle.std.specs.Prelude.{ℕ, cond, List, [], length, Some, None, Ok, Err, 
 use Rattle.matrix.specs.Matrix.{matrix_answer}
 use Rattle.rules.specs.declared.faults.PageFault.{PageFault}
 use Rattle.rules.specs.declared.faults.PageFault.TheVariants.{Size, Version, Status, Stray, Unsettled}
+use Rattle.rules.specs.declared.sheet.Status as status
 use Rattle.rules.specs.Faults.{in_page, of_matrix}
 use Rattle.rules.specs.Models.{Model, reopened, Meaning}
-use Rattle.rules.specs.Pages.{le16, then, page_numbers, page_book, page_sheet, chain_answer, first_stray, agrees}
+use Rattle.rules.specs.Pages.{status_number, le16, then, page_numbers, page_book, page_sheet, chain_answer, first_stray, agrees}
 use Rattle.sheet.specs.declared.sheet.Sheet.{Sheet}
 use Rattle.sheet.specs.Shown.{shown}
+use Rattle.archive.specs.declared.page.Page.{Page}
+use Rattle.archive.specs.Bytes.{bytes_of}
 
 -- Question 16
 abbrev pub stray_answer : Option ℕ → Result (Unit {0}) PageFault
 stray_answer (Some byte) = Err (Stray byte)
 stray_answer None = Ok tt
 
--- Questions 13, 14 and 17
-abbrev pub size_answer : List ℕ → Result (Unit {0}) PageFault
-size_answer p = cond (length p == 1292) (Ok tt) (Err (Size (length p)))
+-- Question 13: the bytes are a page
+abbrev pub page_answer : List ℕ → Result (List ℕ) PageFault
+page_answer p = cond (length p == 1292) (Ok p) (Err (Size (length p)))
 
+-- Question 14
 abbrev pub version_answer : List ℕ → Result (Unit {0}) PageFault
 version_answer p = cond (le16 p 0 == 1) (Ok tt) (Err (Version (le16 p 0)))
 
-abbrev pub status_answer : List ℕ → Result (Unit {0}) PageFault
-status_answer p = cond (nat_le (le16 p 6) 2) (Ok tt) (Err (Status (le16 p 6)))
+-- Question 17: the number of a status
+abbrev pub status_answer : List ℕ → Result ℕ PageFault
+status_answer p = cond (nat_le (le16 p 6) 2) (Ok (le16 p 6)) (Err (Status (le16 p 6)))
+
+-- the bytes of the page that was made
+abbrev pub bytes_in : {E : Type 0} → Result Page E → Result (List ℕ) E
+bytes_in (Ok page) = Ok (bytes_of page)
+bytes_in (Err fault) = Err fault
+
+-- the number of the status that was read
+abbrev pub number_in : {E : Type 0} → Result status.Status E → Result ℕ E
+number_in (Ok s) = Ok (status_number s)
+number_in (Err fault) = Err fault
 
 -- the sheet that was read
 abbrev pub sheet_of : {E : Type 0} → Result Sheet E → Result Model E
@@ -36,7 +51,7 @@ matrix_part p = then of_matrix (matrix_answer (le16 p 2) (page_numbers p (le16 p
 -- every question but the last: an open sheet with the page's job book
 abbrev pub book_part : List ℕ → Result Model PageFault
 book_part p =
-    then (λ e. e) (size_answer p) (λ _.
+    then (λ e. e) (page_answer p) (λ _.
     then (λ e. e) (version_answer p) (λ _.
     then (λ e. e) (matrix_part p) (λ M.
     then (λ e. e) (status_answer p) (λ _.

@@ -2,7 +2,7 @@
 use Rattle.std.specs.Prelude.{ℕ, List}
 use Rattle.rules.specs.Faults.{record_start}
 use Rattle.rules.specs.Pages.{le16, le32, job_in, posted_in, held_in}
-use Rattle.archive.specs.declared.record.Record.{Record}
+use Rattle.archive.specs.declared.page.record.Record.{Record}
 
 -- the record that a part of a page begins with
 abbrev pub record_from : List ℕ → Record

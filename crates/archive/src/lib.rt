@@ -1,15 +1,11 @@
 // Archive pages: a sheet as 1,292 bytes, and back.
 #![tactic(auto)]
 
-mod agreement;
-mod book;
 mod bytes;
+mod layout;
 mod loading;
-mod record;
+mod page;
 mod saving;
-mod status;
-mod strays;
-mod walk;
 mod writing;
 
 pub use loading::load;

@@ -1,75 +1,79 @@
 // Writing a sheet as a page.
-ghost use Rattle.std.specs.Prelude.{◌≡◌, ◌+◌, length, slice_index};
+ghost use Rattle.std.specs.Prelude.{◌≡◌, ◌+◌, ◌<◌, slice_index};
+ghost use Rattle.std.specs.List.{flat_map};
 ghost use Rattle.rules.specs.Pages.{bytes16, next_in, joined, head_bytes, record_bytes, save_answer, saved, LoadsSame};
 ghost use Rattle.chain.specs.Listed.{cards};
 ghost use Rattle.sheet.specs.Shown.{book_of, shown};
 
-use crate::status::status_number;
 use crate::writing::{write16, write32};
 use chain::Chain;
 use rules::PageFault;
 use sheet::Sheet;
+use std::array;
 
 // The card that follows another; 0 where none does.
 fn next_of(chain: &Chain, card: u16) -> u16
     ensures { result ≡ next_in (cards chain.now) card }
 {
-    for i in 0..chain.len() {
-        if chain.card_at(i) == card {
-            return chain.card_at(i + 1);
-        }
-    }
-    0
+    chain
+        .cards()
+        .iter()
+        .position(|&other| other == card)
+        .map_or(0, |i| chain.card_at(i + 1))
 }
 
 // Version, setups, first card, status and rounds.
-fn write_head(sheet: &Sheet, part: &mut [u8])
-    requires { length part.old ≡ 12 }
-    ensures { part.new ≡ head_bytes (shown sheet.now) }
+fn head_bytes(sheet: &Sheet) -> [u8; 12]
+    ensures { result ≡ head_bytes (shown sheet.now) }
 {
-    write16(part, 0, 1);
-    write16(part, 2, sheet.setups());
-    write16(part, 4, sheet.chain().card_at(0));
-    write16(part, 6, status_number(sheet.status()));
-    write32(part, 8, sheet.rounds());
+    let mut head = [0; 12];
+    write16(&mut head, 0, 1);
+    write16(&mut head, 2, sheet.setups());
+    write16(&mut head, 4, sheet.chain().card_at(0));
+    write16(&mut head, 6, u16::from(sheet.status()));
+    write32(&mut head, 8, sheet.rounds());
+    head
 }
 
-// The changeovers, two bytes each.
-fn write_changeovers(sheet: &Sheet, part: &mut [u8])
-    requires { length part.old ≡ 512 }
-    ensures { part.new ≡ joined (λ k. bytes16 (slice_index (book_of sheet.now).changeovers k)) 256 }
+// The changeovers, two bytes each. The closure says what it returns, as an array's bytes are not inferred.
+fn changeover_bytes(sheet: &Sheet) -> [[u8; 2]; 256]
+    ensures { flat_map (λ piece. piece) result ≡ joined (λ k. bytes16 (slice_index (book_of sheet.now).changeovers k)) 256 }
 {
-    for k in 0..256 {
-        write16(part, 2 * k, sheet.changeover(k));
-    }
+    array::from_fn(
+        |k|
+            ensures { result ≡ bytes16 (slice_index (book_of sheet.entry.now).changeovers k) }
+        { sheet.changeover(k).to_le_bytes() },
+    )
 }
 
 // The record of a card.
-fn write_record(sheet: &Sheet, card: u16, part: &mut [u8])
-    requires { length part.old ≡ 24 }
-    ensures { part.new ≡ record_bytes (shown sheet.now) card }
+fn record_bytes(sheet: &Sheet, card: u16) -> [u8; 24]
+    ensures { result ≡ record_bytes (shown sheet.now) card }
 {
     let job = sheet.job(card);
     let posted = sheet.posted(card);
     let held = sheet.held(card);
-    write16(part, 0, next_of(sheet.chain(), card));
-    write16(part, 2, job.setup);
-    write32(part, 4, job.duration);
-    write32(part, 8, posted.early);
-    write32(part, 12, posted.late);
-    write32(part, 16, held.early);
-    write32(part, 20, held.late);
+    let mut record = [0; 24];
+    write16(&mut record, 0, next_of(sheet.chain(), card));
+    write16(&mut record, 2, job.setup);
+    write32(&mut record, 4, job.duration);
+    write32(&mut record, 8, posted.early);
+    write32(&mut record, 12, posted.late);
+    write32(&mut record, 16, held.early);
+    write32(&mut record, 20, held.late);
+    record
 }
 
 // The records of all cards.
-fn write_records(sheet: &Sheet, part: &mut [u8])
-    requires { length part.old ≡ 768 }
-    ensures { part.new ≡ joined (λ k. record_bytes (shown sheet.now) (k + 1)) 32 }
+fn all_records(sheet: &Sheet) -> [[u8; 24]; 32]
+    ensures { flat_map (λ piece. piece) result ≡ joined (λ k. record_bytes (shown sheet.now) (k + 1)) 32 }
 {
-    for k in 0..32u16 {
-        let at = 24 * usize::from(k);
-        write_record(sheet, k + 1, &mut part[at..at + 24]);
-    }
+    array::from_fn(
+        |k|
+            requires { k < 32 }
+            ensures { result ≡ record_bytes (shown sheet.entry.now) (k + 1) }
+        { record_bytes(sheet, k as u16 + 1) },
+    )
 }
 
 // Writes a sheet over a page of 1,292 bytes. With any bound whose numbers are behind its held windows, it loads as the same sheet.
@@ -83,8 +87,8 @@ pub fn save(sheet: &Sheet, page: &mut [u8]) -> Result<(), PageFault>
     if page.len() != 1292 {
         return Err(PageFault::Size(page.len()));
     }
-    write_head(sheet, &mut page[0..12]);
-    write_changeovers(sheet, &mut page[12..524]);
-    write_records(sheet, &mut page[524..1292]);
+    page[0..12].copy_from_slice(&head_bytes(sheet));
+    page[12..524].copy_from_slice(changeover_bytes(sheet).as_flattened());
+    page[524..1292].copy_from_slice(all_records(sheet).as_flattened());
     Ok(())
 }

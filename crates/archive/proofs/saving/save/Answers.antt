@@ -36,7 +36,7 @@ returns c =
     let size : eqb (length c.args.page.now) 1292 ≡ true = eq-eqb _ _ c.if-page-ne1292.false in
     record {
       answer = rw size;
-      after = page_written (shown c.args.sheet.now) c.args.page.now _ _ _ c.if-page-ne1292.false c.write_head.ensures c.write_changeovers.ensures c.write_records.ensures
+      after = page_written (shown c.args.sheet.now) c.args.page.now _ _ _ c.if-page-ne1292.false (c.copy_from_slice.ensures.after ∙ c.head_bytes.ensures) (c.copy_from_slice-2.ensures.after ∙ c.as_flattened.ensures.value ∙ c.changeover_bytes.ensures) (c.copy_from_slice-3.ensures.after ∙ c.as_flattened-2.ensures.value ∙ c.all_records.ensures)
           ∙ sym (cond-true _ _ _ size);
       same = loads c.args.sheet.now (omega arith);
     }

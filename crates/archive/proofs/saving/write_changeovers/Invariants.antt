@@ -1,7 +1,0 @@
-use Rattle.rules.specs.Pages.{joined}
-use Rattle.sheet.specs.Shown.{shown}
-use Rattle.archive.proofs.Fronts.{Front, changeover_piece}
-use Rattle.archive.proofs.saving.write_changeovers.Given as goal
-
-abbrev pub invariant-loop-k : goal.invariant-loop-k
-invariant-loop-k l = Front l.initial.part l.part (joined (changeover_piece (shown l.sheet)) l.k)
