@@ -1,2 +1,4 @@
 pub mod Chosen
 pub mod Chosens
+pub mod Names
+pub mod Words

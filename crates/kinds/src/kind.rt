@@ -1,5 +1,8 @@
 // The kinds of bound that a program can name.
+ghost use Rattle.kinds.specs.Names.{Names};
+
 use changeover::{Listed, Multiples, Zeros};
+use std::str::FromStr;
 
 // A bound that is chosen as the program runs.
 #[derive(Clone, Copy)]
@@ -15,4 +18,23 @@ pub enum KindNumbers {
     None(Zeros),
     Least(Multiples),
     Walk(Listed),
+}
+
+// A word that names no kind of bound.
+#[derive(Clone, Copy)]
+pub struct UnknownKind;
+
+impl FromStr for Kind {
+    type Err = UnknownKind;
+
+    ghost from_str_gives = { Names };
+
+    fn from_str(word: &str) -> Result<Kind, UnknownKind> {
+        match word {
+            "none" => Ok(Kind::NoBound),
+            "least" => Ok(Kind::LeastGap),
+            "walk" => Ok(Kind::ShortestWalk),
+            _ => Err(UnknownKind),
+        }
+    }
 }

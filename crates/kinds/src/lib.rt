@@ -10,9 +10,11 @@ use changeover::{Bound, Gaps, LeastGap, NoBound, Numbers, ShortestWalk};
 mod choice;
 mod chosen;
 mod kind;
+mod words;
 
 pub use chosen::{Choice, ChoiceNumbers};
-pub use kind::{Kind, KindNumbers};
+pub use kind::{Kind, KindNumbers, UnknownKind};
+pub use words::{Unnamed, next_choice, next_kind};
 
 impl Numbers for KindNumbers {
     ghost at = { numbers_at };
