@@ -1,7 +1,8 @@
 // Reading a line.
-use kinds::{Choice, Kind};
+use kinds::{Choice, next_choice};
+use lines::{Unread, long, short, uncommented};
 use rules::{Job, Window};
-use std::alloc::{AllocError, AllocFailed, Global};
+use std::alloc::Global;
 use std::str::SplitWhitespace;
 
 // What a line asks for: a command on the sheet, or one that also reaches a file.
@@ -34,64 +35,14 @@ pub enum Command {
     Show,
 }
 
-// Why a line cannot be read.
-#[derive(Drop)]
-pub enum Unread<'a> {
-    NoSuchCommand(&'a str),
-    NumberMissing,
-    BoundMissing,
-    FileMissing,
-    NoSuchBound(&'a str),
-    // No whole number of 16 bits.
-    NoShort(&'a str),
-    // No whole number of 32 bits.
-    NoLong(&'a str),
-    TooMany(&'a str),
-    Memory,
-}
-
-impl From<AllocError> for Unread<'_> {
-    fn from(_e: AllocError) -> Self {
-        Unread::Memory
-    }
-}
-
-impl<T: Drop> From<AllocFailed<T>> for Unread<'_> {
-    fn from(_e: AllocFailed<T>) -> Self {
-        Unread::Memory
-    }
-}
-
-// The part of a line before its comment.
-fn uncommented(line: &str) -> &str {
-    match line.split_once('#') {
-        Some((before, _)) => before,
-        None => line,
-    }
-}
-
-fn short<'a>(word: &'a str) -> Result<u16, Unread<'a>> {
-    match word.parse::<u16>() {
-        Ok(n) => Ok(n),
-        Err(_) => Err(Unread::NoShort(word)),
-    }
-}
-
+// The next whole number of 16 bits.
 fn next_short<'a>(words: &mut SplitWhitespace<'a>) -> Result<u16, Unread<'a>> {
-    match words.next() {
-        Some(word) => short(word),
-        None => Err(Unread::NumberMissing),
-    }
+    short(words.next().ok_or(Unread::NumberMissing)?)
 }
 
+// The next whole number of 32 bits.
 fn next_long<'a>(words: &mut SplitWhitespace<'a>) -> Result<u32, Unread<'a>> {
-    let Some(word) = words.next() else {
-        return Err(Unread::NumberMissing);
-    };
-    match word.parse::<u32>() {
-        Ok(n) => Ok(n),
-        Err(_) => Err(Unread::NoLong(word)),
-    }
+    long(words.next().ok_or(Unread::NumberMissing)?)
 }
 
 fn next_window<'a>(words: &mut SplitWhitespace<'a>) -> Result<Window, Unread<'a>> {
@@ -100,37 +51,7 @@ fn next_window<'a>(words: &mut SplitWhitespace<'a>) -> Result<Window, Unread<'a>
     Ok(Window { early, late })
 }
 
-fn kind<'a>(word: &'a str) -> Result<Kind, Unread<'a>> {
-    match word {
-        "none" => Ok(Kind::NoBound),
-        "least" => Ok(Kind::LeastGap),
-        "walk" => Ok(Kind::ShortestWalk),
-        _ => Err(Unread::NoSuchBound(word)),
-    }
-}
-
-fn next_kind<'a>(words: &mut SplitWhitespace<'a>) -> Result<Kind, Unread<'a>> {
-    match words.next() {
-        Some(word) => kind(word),
-        None => Err(Unread::BoundMissing),
-    }
-}
-
-fn next_choice<'a>(words: &mut SplitWhitespace<'a>) -> Result<Choice, Unread<'a>> {
-    match words.next() {
-        Some("larger") => {
-            let one = next_kind(words)?;
-            let other = next_kind(words)?;
-            Ok(Choice::Larger(one, other))
-        }
-        Some(word) => {
-            let one = kind(word)?;
-            Ok(Choice::One(one))
-        }
-        None => Err(Unread::BoundMissing),
-    }
-}
-
+// A function for this and for rig's `make` would have to be told what to say where the setups are missing.
 fn make<'a>(heap: Global, words: &mut SplitWhitespace<'a>) -> Result<Command, Unread<'a>> {
     let setups = next_short(words)?;
     let mut numbers = Vec::new(heap);
@@ -155,10 +76,8 @@ fn narrow<'a>(words: &mut SplitWhitespace<'a>) -> Result<Command, Unread<'a>> {
 }
 
 fn next_file<'a>(heap: Global, words: &mut SplitWhitespace<'a>) -> Result<String, Unread<'a>> {
-    match words.next() {
-        Some(word) => Ok(String::from_str(heap, word)?),
-        None => Err(Unread::FileMissing),
-    }
+    let word = words.next().ok_or(Unread::FileMissing)?;
+    Ok(String::from_str(heap, word)?)
 }
 
 fn load<'a>(heap: Global, words: &mut SplitWhitespace<'a>) -> Result<Request, Unread<'a>> {

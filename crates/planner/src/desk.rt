@@ -1,8 +1,12 @@
 // What a command does to the sheet, and what is answered.
+ghost use Rattle.std.specs.Prelude.{◌≡◌, Some};
+ghost use Rattle.planner.specs.Texts.{of_matrix, of_card, refused_text};
+
 use crate::command::Command;
 use matrix::MatrixRefusal;
 use rules::{CardRefusal, Settlement, View};
 use sheet::Sheet;
+use std::fmt;
 
 #[derive(Clone, Copy)]
 pub enum Answer {
@@ -14,35 +18,65 @@ pub enum Answer {
     Looked(View),
     Settled(Settlement),
     Sheet,
-    NotMade(MatrixRefusal),
-    Refused(CardRefusal),
+}
+
+// Why a command is refused.
+#[derive(Clone, Copy)]
+pub enum Refused {
+    Matrix(MatrixRefusal),
+    Card(CardRefusal),
+}
+
+impl From<MatrixRefusal> for Refused {
+    ghost from_gives = { λ e r. r ≡ of_matrix e };
+
+    fn from(refusal: MatrixRefusal) -> Refused {
+        Refused::Matrix(refusal)
+    }
+}
+
+impl From<CardRefusal> for Refused {
+    ghost from_gives = { λ e r. r ≡ of_card e };
+
+    fn from(refusal: CardRefusal) -> Refused {
+        Refused::Card(refusal)
+    }
+}
+
+// The number of the question, its values, and the reason.
+impl fmt::Display for Refused {
+    ghost output = { λ refused. Some (refused_text refused) };
+
+    fn fmt<W: fmt::Write>(&self, f: &mut fmt::Formatter<W>) -> fmt::Result {
+        match self {
+            Refused::Matrix(refusal) => write!(f, "{refusal}"),
+            Refused::Card(refusal) => write!(f, "{refusal}"),
+        }
+    }
 }
 
 // Plays a command on the sheet.
-pub fn play(sheet: &mut Sheet, command: &Command) -> Answer {
+pub fn play(sheet: &mut Sheet, command: &Command) -> Result<Answer, Refused> {
     match command {
-        Command::Make(setups, numbers) => match sheet.make(*setups, numbers.as_slice()) {
-            Ok(()) => Answer::Made(*setups),
-            Err(refusal) => Answer::NotMade(refusal),
-        },
-        Command::Bounds => Answer::Bounds,
-        Command::Post(card, job, window) => match sheet.post(*card, *job, *window) {
-            Ok(()) => Answer::Posted(*card),
-            Err(refusal) => Answer::Refused(refusal),
-        },
-        Command::Narrow(card, window) => match sheet.narrow(*card, *window) {
-            Ok(()) => Answer::Narrowed(*card),
-            Err(refusal) => Answer::Refused(refusal),
-        },
-        Command::Withdraw(card) => match sheet.withdraw(*card) {
-            Ok(()) => Answer::Withdrawn(*card),
-            Err(refusal) => Answer::Refused(refusal),
-        },
-        Command::Look(card) => match sheet.look(*card) {
-            Ok(view) => Answer::Looked(view),
-            Err(refusal) => Answer::Refused(refusal),
-        },
-        Command::Settle(choice) => Answer::Settled(sheet.settle(*choice)),
-        Command::Show => Answer::Sheet,
+        Command::Make(setups, numbers) => {
+            sheet.make(*setups, numbers.as_slice())?;
+            Ok(Answer::Made(*setups))
+        }
+        Command::Bounds => Ok(Answer::Bounds),
+        Command::Post(card, job, window) => {
+            sheet.post(*card, *job, *window)?;
+            Ok(Answer::Posted(*card))
+        }
+        Command::Narrow(card, window) => {
+            sheet.narrow(*card, *window)?;
+            Ok(Answer::Narrowed(*card))
+        }
+        Command::Withdraw(card) => {
+            sheet.withdraw(*card)?;
+            Ok(Answer::Withdrawn(*card))
+        }
+        Command::Look(card) => Ok(Answer::Looked(sheet.look(*card)?)),
+        Command::Settle(choice) => Ok(Answer::Settled(sheet.settle(*choice))),
+        Command::Show => Ok(Answer::Sheet),
     }
 }

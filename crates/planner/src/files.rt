@@ -1,7 +1,6 @@
 // Pages in files.
 use archive::{load, save};
 use kinds::Choice;
-use listing::{fault_line, sheet_lines};
 use sheet::Sheet;
 use std::alloc::AllocError;
 use std::{fs, io};
@@ -23,7 +22,7 @@ pub fn save_to(rt: &HostRuntime, sheet: &Sheet, path: &str) -> Result<String, Al
     let heap = rt.alloc();
     let mut page = [0; 1292];
     if let Err(fault) = save(sheet, &mut page) {
-        return fault_line(heap, &fault);
+        return format!(in heap; "refused {fault}\n");
     }
     match replace_file(rt, path, &page) {
         Ok(()) => String::from_str(heap, "saved\n"),
@@ -44,7 +43,7 @@ pub fn load_from(
         Err(fault) => return format!(in heap; "unloaded {path} {fault}\n"),
     };
     match load(sheet, page.as_slice(), choice) {
-        Ok(()) => sheet_lines(heap, sheet),
-        Err(fault) => fault_line(heap, &fault),
+        Ok(()) => format!(in heap; "{sheet}\n"),
+        Err(fault) => format!(in heap; "refused {fault}\n"),
     }
 }

@@ -13,7 +13,7 @@ use sheet::Sheet;
 use std::alloc::AllocError;
 use std::io;
 use std::io::{BufRead, BufReader, ErrorKind};
-use words::{answered, unread};
+use words::answered;
 
 // The answer to a line, ended by a line feed; nothing where it has no words.
 fn answer(
@@ -25,16 +25,17 @@ fn answer(
     let heap = rt.alloc();
     match read(heap, line) {
         Ok(None) => Ok(String::new(heap)),
-        Ok(Some(Request::On(command))) => {
-            let answer = play(sheet, &command);
-            answered(heap, sheet, answer)
-        }
+        Ok(Some(Request::On(command))) => match play(sheet, &command) {
+            Ok(answer) => answered(heap, sheet, answer),
+            Err(refused) => format!(in heap; "refused {refused}\n"),
+        },
         Ok(Some(Request::Save(path))) => save_to(rt, sheet, path.as_str()),
         Ok(Some(Request::Load(path, choice))) => load_from(rt, sheet, path.as_str(), choice),
-        Err(fault) => unread(heap, number, fault),
+        Err(unread) => format!(in heap; "unread {number} {unread}\n"),
     }
 }
 
+// Each program has its own loop: of what is read and printed a library's function could promise nothing.
 fn main(rt: HostRuntime) -> io::Result<()> {
     let heap = rt.alloc();
     let mut sheet = Sheet::blank();

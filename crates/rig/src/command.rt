@@ -1,5 +1,6 @@
 // What a line asks for.
-use std::alloc::{AllocError, AllocFailed, Global};
+use lines::{Unread, short, uncommented};
+use std::alloc::Global;
 use std::str::SplitWhitespace;
 
 #[derive(Drop)]
@@ -10,51 +11,11 @@ pub enum Command {
     Bounds,
 }
 
-// Why a line cannot be read.
-#[derive(Drop)]
-pub enum Unread<'a> {
-    NoSuchCommand(&'a str),
-    NoSetups,
-    NoNumber(&'a str),
-    TooMany(&'a str),
-    Memory,
-}
-
-impl From<AllocError> for Unread<'_> {
-    fn from(_e: AllocError) -> Self {
-        Unread::Memory
-    }
-}
-
-impl<T: Drop> From<AllocFailed<T>> for Unread<'_> {
-    fn from(_e: AllocFailed<T>) -> Self {
-        Unread::Memory
-    }
-}
-
-// The part of a line before its comment.
-fn uncommented(line: &str) -> &str {
-    match line.split_once('#') {
-        Some((before, _)) => before,
-        None => line,
-    }
-}
-
-fn number<'a>(word: &'a str) -> Result<u16, Unread<'a>> {
-    match word.parse::<u16>() {
-        Ok(n) => Ok(n),
-        Err(_) => Err(Unread::NoNumber(word)),
-    }
-}
-
 fn make<'a>(heap: Global, mut words: SplitWhitespace<'a>) -> Result<Command, Unread<'a>> {
-    let Some(setups) = words.next() else {
-        return Err(Unread::NoSetups);
-    };
-    let setups = number(setups)?;
+    let setups = short(words.next().ok_or(Unread::SetupsMissing)?)?;
     let mut numbers = Vec::new(heap);
     for word in words {
-        numbers.push(number(word)?)?;
+        numbers.push(short(word)?)?;
     }
     Ok(Command::Make(setups, numbers))
 }
@@ -72,10 +33,9 @@ pub fn read<'a>(heap: Global, line: &'a str) -> Result<Option<Command>, Unread<'
     let Some(name) = words.next() else {
         return Ok(None);
     };
-    let command = match name {
-        "make" => make(heap, words)?,
-        "bounds" => alone(Command::Bounds, words)?,
-        _ => return Err(Unread::NoSuchCommand(name)),
-    };
-    Ok(Some(command))
+    match name {
+        "make" => Ok(Some(make(heap, words)?)),
+        "bounds" => Ok(Some(alone(Command::Bounds, words)?)),
+        _ => Err(Unread::NoSuchCommand(name)),
+    }
 }

@@ -1,7 +1,7 @@
 // What the rig keeps, and how it answers a line.
-use crate::command::{Command, Unread, read};
-use crate::words::{bound, refused, unread};
-use changeover::{Gaps, Larger, LeastGap, NoBound, ShortestWalk, one_job_each};
+use crate::command::{Command, read};
+use changeover::{Gaps, one_job_each};
+use lines::AllBounds;
 use std::alloc::{AllocError, Global};
 
 // The gaps between jobs, one for each setup of the matrix that was made last.
@@ -25,21 +25,13 @@ impl Desk {
                 self.gaps = gaps;
                 format!(in heap; "made {setups}\n")
             }
-            Err(refusal) => refused(heap, &refusal),
+            Err(refusal) => format!(in heap; "refused {refusal}\n"),
         }
     }
 
     fn bounds(&self, heap: Global) -> Result<String, AllocError> {
-        let gaps = &self.gaps;
-        let both = Larger {
-            one: LeastGap,
-            other: ShortestWalk,
-        };
-        let mut text = bound(heap, "none", NoBound, gaps)?;
-        text.push_str(bound(heap, "least", LeastGap, gaps)?.as_str())?;
-        text.push_str(bound(heap, "walk", ShortestWalk, gaps)?.as_str())?;
-        text.push_str(bound(heap, "larger", both, gaps)?.as_str())?;
-        Ok(text)
+        let bounds = AllBounds { gaps: &self.gaps };
+        format!(in heap; "{bounds}\n")
     }
 
     // The answer to a line, ended by a line feed; nothing where it has no words.
@@ -48,7 +40,7 @@ impl Desk {
             Ok(None) => Ok(String::new(heap)),
             Ok(Some(Command::Make(setups, numbers))) => self.make(heap, setups, numbers.as_slice()),
             Ok(Some(Command::Bounds)) => self.bounds(heap),
-            Err(fault) => unread(heap, number, fault),
+            Err(unread) => format!(in heap; "unread {number} {unread}\n"),
         }
     }
 }

@@ -3,12 +3,12 @@
 
 mod command;
 mod desk;
-mod words;
 
 use desk::Desk;
 use std::io;
 use std::io::{BufRead, BufReader, ErrorKind};
 
+// Each program has its own loop: of what is read and printed a library's function could promise nothing.
 fn main(rt: HostRuntime) -> io::Result<()> {
     let heap = rt.alloc();
     let mut desk = Desk::blank();
