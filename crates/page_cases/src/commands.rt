@@ -1,5 +1,5 @@
 // What a line asks for.
-use kinds::{Choice, Kind};
+use kinds::{Choice, next_choice};
 use std::str::SplitWhitespace;
 
 #[derive(Clone, Copy)]
@@ -14,6 +14,15 @@ pub enum Command {
     Cut(usize, Choice),
 }
 
+// The byte of two hexadecimal digits.
+fn byte(digits: &[u8]) -> Option<u8> {
+    let [high, low] = digits else {
+        return None;
+    };
+    Some((digit(*high)? << 4) | digit(*low)?)
+}
+
+// The value of a digit; `to_digit` would take upper case as well.
 fn digit(byte: u8) -> Option<u8> {
     match byte {
         b'0'..=b'9' => Some(byte - b'0'),
@@ -28,35 +37,10 @@ fn page(digits: &[u8]) -> Option<[u8; 1292]> {
         return None;
     }
     let mut bytes = [0; 1292];
-    for i in 0..1292 {
-        let high = digit(digits[2 * i])?;
-        let low = digit(digits[2 * i + 1])?;
-        bytes[i] = (high << 4) | low;
+    for (place, pair) in bytes.iter_mut().zip(digits.chunks_exact(2)) {
+        *place = byte(pair)?;
     }
     Some(bytes)
-}
-
-fn kind(word: &str) -> Option<Kind> {
-    match word {
-        "none" => Some(Kind::NoBound),
-        "least" => Some(Kind::LeastGap),
-        "walk" => Some(Kind::ShortestWalk),
-        _ => None,
-    }
-}
-
-fn choice(words: &mut SplitWhitespace<'_>) -> Option<Choice> {
-    match words.next()? {
-        "larger" => {
-            let one = kind(words.next()?)?;
-            let other = kind(words.next()?)?;
-            Some(Choice::Larger(one, other))
-        }
-        word => {
-            let one = kind(word)?;
-            Some(Choice::One(one))
-        }
-    }
 }
 
 fn number(words: &mut SplitWhitespace<'_>) -> Option<u32> {
@@ -72,18 +56,18 @@ pub fn read(line: &str) -> Option<Command> {
             Some(Command::Page(bytes))
         }
         "load" => {
-            let choice = choice(&mut words)?;
+            let choice = next_choice(&mut words).ok()?;
             Some(Command::Load(choice))
         }
         "damage" => {
             let byte = number(&mut words)? as usize;
             let value = u8::try_from(number(&mut words)?).ok()?;
-            let choice = choice(&mut words)?;
+            let choice = next_choice(&mut words).ok()?;
             Some(Command::Damage(byte, value, choice))
         }
         "cut" => {
             let count = number(&mut words)? as usize;
-            let choice = choice(&mut words)?;
+            let choice = next_choice(&mut words).ok()?;
             Some(Command::Cut(count, choice))
         }
         _ => None,

@@ -6,7 +6,6 @@ mod commands;
 use archive::{load, save};
 use commands::{Command, read};
 use kinds::Choice;
-use listing::{fault_line, sheet_lines};
 use sheet::Sheet;
 use std::alloc::{AllocError, Global};
 use std::io;
@@ -38,7 +37,7 @@ fn loaded(heap: Global, page: &[u8], choice: Choice) -> Result<String, AllocErro
     let mut sheet = Sheet::blank();
     match load(&mut sheet, page, choice) {
         Ok(()) => {
-            let lines = sheet_lines(heap, &sheet)?;
+            let lines = format!(in heap; "{sheet}")?;
             let mut text = in_one_line(heap, lines.as_str())?;
             text.push_str(if saves_as(&sheet, page) {
                 " same"
@@ -47,10 +46,7 @@ fn loaded(heap: Global, page: &[u8], choice: Choice) -> Result<String, AllocErro
             })?;
             Ok(text)
         }
-        Err(fault) => {
-            let line = fault_line(heap, &fault)?;
-            in_one_line(heap, line.as_str())
-        }
+        Err(fault) => format!(in heap; "refused {fault}"),
     }
 }
 

@@ -4,7 +4,6 @@
 use anyhow::anyhow;
 use archive::load;
 use changeover::ShortestWalk;
-use listing::{fault_line, sheet_lines};
 use sheet::Sheet;
 use std::io::Read;
 
@@ -15,11 +14,11 @@ fn main(rt: HostRuntime) -> anyhow::Result<()> {
     let mut sheet = Sheet::blank();
     match load(&mut sheet, page.as_slice(), ShortestWalk) {
         Ok(()) => {
-            rt.print(sheet_lines(heap, &sheet)?)?;
+            println!(rt; "{sheet}")?;
             Ok(())
         }
         Err(fault) => {
-            rt.print(fault_line(heap, &fault)?)?;
+            println!(rt; "refused {fault}")?;
             Err(anyhow!("the page is refused"))
         }
     }

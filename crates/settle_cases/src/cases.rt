@@ -2,14 +2,13 @@
 use crate::scripted::Scripted;
 use changeover::Gaps;
 use face::{Face, Job};
-use kinds::Kind;
+use kinds::{Choice, next_choice};
 use std::str::SplitWhitespace;
 
 // The bound that a case names.
 #[derive(Clone, Copy)]
 pub enum Named {
-    One(Kind),
-    Larger(Kind, Kind),
+    Chosen(Choice),
     Given(Scripted),
 }
 
@@ -17,40 +16,23 @@ fn number(words: &mut SplitWhitespace<'_>) -> Option<u32> {
     words.next()?.parse::<u32>().ok()
 }
 
-fn kind(word: &str) -> Option<Kind> {
-    match word {
-        "none" => Some(Kind::NoBound),
-        "least" => Some(Kind::LeastGap),
-        "walk" => Some(Kind::ShortestWalk),
-        _ => None,
-    }
-}
-
+// The numbers that a case gives itself, of which the first says how many they are.
 fn scripted(words: &mut SplitWhitespace<'_>) -> Option<Scripted> {
     let count = number(words)? as usize;
     let mut given = [0; 32];
-    for e in 0..count.min(32) {
-        given[e] = number(words)?;
+    for place in &mut given[..count.min(32)] {
+        *place = number(words)?;
     }
     Some(Scripted { given })
 }
 
-pub fn bound(words: &mut SplitWhitespace<'_>) -> Option<Named> {
-    match words.next()? {
-        "larger" => {
-            let one = kind(words.next()?)?;
-            let other = kind(words.next()?)?;
-            Some(Named::Larger(one, other))
-        }
-        "scripted" => {
-            let given = scripted(words)?;
-            Some(Named::Given(given))
-        }
-        word => {
-            let one = kind(word)?;
-            Some(Named::One(one))
-        }
+// The bound of a line: the words that name it, or numbers after "scripted".
+pub fn bound(words: &mut SplitWhitespace<'_>, line: &str) -> Option<Named> {
+    if line.split_whitespace().next()? == "scripted" {
+        words.next()?;
+        return scripted(words).map(Named::Given);
     }
+    next_choice(words).ok().map(Named::Chosen)
 }
 
 fn job(words: &mut SplitWhitespace<'_>) -> Option<Job> {
@@ -66,6 +48,7 @@ fn job(words: &mut SplitWhitespace<'_>) -> Option<Job> {
 
 fn gaps(words: &mut SplitWhitespace<'_>, n: usize) -> Option<Gaps> {
     let mut gaps = Gaps::new(n)?;
+    // Over the places of the table: each is handed on as two job numbers.
     for k in 0..n * n {
         let minutes = u16::try_from(number(words)?).ok()?;
         gaps.set_gap(k / n, k % n, minutes).ok()?;
@@ -84,8 +67,8 @@ pub fn face(words: &mut SplitWhitespace<'_>) -> Option<Face> {
         late: 0,
     };
     let mut jobs = [none; 32];
-    for j in 0..n {
-        jobs[j] = job(words)?;
+    for place in &mut jobs[..n] {
+        *place = job(words)?;
     }
     let gaps = gaps(words, n)?;
     Face::new(&jobs[0..n], &gaps)

@@ -6,7 +6,6 @@ mod scripted;
 mod show;
 
 use cases::Named;
-use changeover::Larger;
 use face::Face;
 use filtering::{Outcome, settle};
 use std::io;
@@ -14,8 +13,7 @@ use std::io::{BufRead, BufReader};
 
 fn settle_with(face: &Face, bound: Named) -> Outcome {
     match bound {
-        Named::One(kind) => settle(face, kind),
-        Named::Larger(one, other) => settle(face, Larger { one, other }),
+        Named::Chosen(choice) => settle(face, choice),
         Named::Given(scripted) => settle(face, scripted),
     }
 }
@@ -25,7 +23,7 @@ fn main(rt: HostRuntime) -> io::Result<()> {
     for line in BufReader::new(heap, rt.stdin())?.lines(heap) {
         let text = line?;
         let mut words = text.as_str().split_whitespace();
-        let bound = cases::bound(&mut words);
+        let bound = cases::bound(&mut words, text.as_str());
         let face = cases::face(&mut words);
         match (bound, face) {
             (Some(bound), Some(face)) => {
