@@ -7,8 +7,6 @@ ghost use Rattle.examples.specs.Examples.{WorkedExamples};
 mod tests;
 
 // States the worked examples of the definitions.
-pub fn worked_examples() -> u8
+pub fn worked_examples()
     ensures { WorkedExamples }
-{
-    0
-}
+{}
