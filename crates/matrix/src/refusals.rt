@@ -79,14 +79,17 @@ impl fmt::Display for MatrixRefusal {
     ghost output = { λ refusal. Some (refusal_text refusal) };
 
     fn fmt<W: fmt::Write>(&self, f: &mut fmt::Formatter<W>) -> fmt::Result {
+        let number = self.number();
         match self {
-            MatrixRefusal::Setups(setups) => write!(f, "1 {setups} a matrix has 1 to 16 setups"),
+            MatrixRefusal::Setups(setups) => {
+                write!(f, "{number} {setups} a matrix has 1 to 16 setups")
+            }
             MatrixRefusal::Count(count) => write!(
                 f,
-                "2 {count} a matrix has one number for each setup and each setup after it"
+                "{number} {count} a matrix has one number for each setup and each setup after it"
             ),
-            MatrixRefusal::TooGreat(entry) => write!(f, "3 {entry}"),
-            MatrixRefusal::Triangle(triple) => write!(f, "4 {triple}"),
+            MatrixRefusal::TooGreat(entry) => write!(f, "{number} {entry}"),
+            MatrixRefusal::Triangle(triple) => write!(f, "{number} {triple}"),
         }
     }
 }
