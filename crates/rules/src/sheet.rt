@@ -90,16 +90,25 @@ impl From<Status> for u16 {
     }
 }
 
+impl Status {
+    // Its name.
+    pub fn name(&self) -> &'static str
+        ensures { result.now ≡ status_text self.now }
+    {
+        match self {
+            Status::Open => "open",
+            Status::Settled => "settled",
+            Status::Overloaded => "overloaded",
+        }
+    }
+}
+
 // Its name.
 impl fmt::Display for Status {
     ghost output = { λ status. Some (status_text status) };
 
     fn fmt<W: fmt::Write>(&self, f: &mut fmt::Formatter<W>) -> fmt::Result {
-        f.write_str(match self {
-            Status::Open => "open",
-            Status::Settled => "settled",
-            Status::Overloaded => "overloaded",
-        })
+        f.write_str(self.name())
     }
 }
 
