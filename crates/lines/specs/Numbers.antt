@@ -10,7 +10,7 @@ use Rattle.lines.specs.declared.unread.Unread.TheVariants.{NoShort, NoLong}
 abbrev pub before_hash : List ℕ → List ℕ
 before_hash line = before_first (λ b. b == 35) line
 
--- a whole number of 16 bits, in decimal digits; or the word, where it is none
+-- a whole number of 16 bits, in decimal digits after one plus sign or none; or the word, where it is none
 abbrev pub ShortRead : List ℕ → Result ℕ Unread → Type 0
 ShortRead word r = ParsesUnsigned 16 10 word r × IfErr r (λ e. (w : Bor (List ℕ)) × (e ≡ NoShort w) × (w.now ≡ word))
 
