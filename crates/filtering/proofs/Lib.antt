@@ -1,5 +1,6 @@
 pub mod Finds
 pub mod Halving
+pub mod Turning
 pub mod Runs
 pub mod Lates
 pub mod Fillings
