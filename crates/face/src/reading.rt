@@ -24,8 +24,8 @@ pub(crate) struct Orders {
     ghost finishing: { Listed (shown face).n (earliest_finish (shown face)) by_earliest_finish },
 }
 
-// A face that is read once, and a bound.
-#[derive(Clone, Copy)]
+// A face that is read once, and a bound. It copies, whether the bound does or not: it lends the bound.
+#[derive_where(Clone, Copy)]
 pub struct Reading<'a, W> {
     pub(crate) orders: Orders,
     pub(crate) bound: &'a W,
