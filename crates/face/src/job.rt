@@ -15,7 +15,7 @@ pub struct Job {
 }
 
 // No job, where there is none.
-const NO_JOB: Job = Job {
+pub(crate) const NO_JOB: Job = Job {
     duration: 0,
     early: 0,
     late: 0,

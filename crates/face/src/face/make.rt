@@ -6,10 +6,9 @@ ghost use Rattle.face.specs.Jobs.{early_in, late_in, duration_in};
 ghost use Rattle.face.specs.Shown.{shown, Verdict, Checked, Made, Windowed};
 
 use super::Face;
-use crate::job::{HORIZON, Job, nth_job};
+use crate::job::{HORIZON, Job, NO_JOB, nth_job};
 use changeover::Gaps;
 use rules::Window;
-use std::array;
 
 // Whether each job of a list is in its limits.
 fn all_in_limits(jobs: &[Job]) -> bool
@@ -63,7 +62,11 @@ impl Face {
         if jobs.len() != gaps.jobs() {
             return None;
         }
-        Face::checked(array::from_fn(|j| nth_job(jobs, j)), gaps)
+        let mut all = [NO_JOB; 32];
+        for (j, job) in all[..jobs.len()].iter_mut().enumerate() {
+            *job = nth_job(jobs, j);
+        }
+        Face::checked(all, gaps)
     }
 
     // A job in another window.
@@ -82,7 +85,11 @@ impl Face {
     pub fn with_windows(&self, windows: &[Window; 32]) -> Option<Face>
         ensures { Windowed self.now windows.now result }
     {
-        Face::checked(array::from_fn(|j| self.job_in(j, windows[j])), &self.gaps)
+        let mut jobs = self.jobs;
+        for (j, job) in jobs[..self.jobs()].iter_mut().enumerate() {
+            *job = self.job_in(j, windows[j]);
+        }
+        Face::checked(jobs, &self.gaps)
     }
 
     // A job with time running backwards from the last minute.
@@ -100,8 +107,12 @@ impl Face {
     pub fn turned(&self) -> Face
         ensures { shown result ≡ turned (shown self.now) }
     {
+        let mut jobs = self.jobs;
+        for (j, job) in jobs[..self.jobs()].iter_mut().enumerate() {
+            *job = self.turned_job(j);
+        }
         Face {
-            jobs: array::from_fn(|j| self.turned_job(j)),
+            jobs,
             gaps: turned_gaps(&self.gaps),
         }
     }

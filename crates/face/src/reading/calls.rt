@@ -69,8 +69,10 @@ impl<'a, W> Reading<'a, W> {
         ensures face { read result ≡ shown face.now }
         ensures bound { bound_of result ≡ bound.now }
     {
-        let orders = Orders::of(face);
-        Reading { orders, bound }
+        Reading {
+            orders: Orders::of(face),
+            bound,
+        }
     }
 
     // The face that was read.
