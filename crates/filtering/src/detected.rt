@@ -8,7 +8,7 @@ ghost use Rattle.face.specs.WhiteTrees.{but};
 ghost use Rattle.filtering.specs.Ends.{late_from, Each};
 ghost use Rattle.filtering.specs.Sets.{Filled, FilledBelow, under};
 
-use crate::sets::{after, greatest_end, is_other_under};
+use crate::sets::{after, greatest_end, is_above, is_other_under};
 use changeover::Numbers;
 use face::{Face, Reading, WhiteTree};
 
@@ -83,7 +83,7 @@ fn not_last_late(face: &Face, i: usize, over: Option<u32>) -> u32
     ensures { result ≡ late_from (shown face.now) over i }
 {
     let late = face.late(i);
-    if over.is_some_and(|end| end > face.latest_start(i)) {
+    if is_above(over, face.latest_start(i)) {
         greatest_end(face, |k| is_other_under(face, i, late, k), i)
     } else {
         late

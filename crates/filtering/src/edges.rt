@@ -7,7 +7,7 @@ ghost use Rattle.filtering.specs.Edges.{crowded, flagged, Coloured, Blamed, Move
 ghost use Rattle.filtering.specs.Ends.{Each};
 
 use crate::overload::Calm;
-use crate::sets::{after, is_up_to};
+use crate::sets::{after, is_above, is_up_to};
 use changeover::Numbers;
 use face::{GreyTree, Reading};
 
@@ -39,7 +39,7 @@ impl Edges {
     {
         let latest = self.tree.latest(reading);
         let late = reading.face().late(j);
-        if latest.with_grey.is_some_and(|end| end > late) {
+        if is_above(latest.with_grey, late) {
             latest.job
         } else {
             None
@@ -67,9 +67,9 @@ impl Edges {
 impl<W: Numbers> Calm<'_, W> {
     // Each job's early end after the last job of late order with which it cannot finish in time; 0 where there is none.
     pub(crate) fn edge_earlies(&self) -> [u32; 32]
-        ensures { Each (read self.now.reading).n (edge_early (read self.now.reading) (W.Numbers.at (bound_of self.now.reading))) result }
+        ensures { Each (read self.now.reading.now).n (edge_early (read self.now.reading.now) (W.Numbers.at (bound_of self.now.reading.now))) result }
     {
-        let reading = &self.reading;
+        let reading = self.reading;
         let mut edges = Edges {
             tree: all_white(reading),
             grey: [false; 32],

@@ -16,7 +16,8 @@ pub(crate) fn half_round<W: Numbers>(face: &Face, b: &W) -> Result<Face, Overloa
     ensures { half_of result ≡ half_round (shown face.now) (W.Numbers.at b.now) }
 {
     check_pairs(face)?;
-    let calm = check_load(Reading::of(face, b))?;
+    let reading = Reading::of(face, b);
+    let calm = check_load(&reading)?;
     let windows = calm.new_windows();
     check_room(face, &windows)?;
     let Some(next) = face.with_windows(&windows) else {

@@ -3,6 +3,7 @@ ghost use Rattle.std.specs.Prelude.{◌≡◌, None, Some, MatchResult};
 ghost use Rattle.rules.specs.Rules.{overloading};
 ghost use Rattle.face.specs.Readings.{bound_of, read};
 
+use crate::sets::is_above;
 use changeover::Numbers;
 use face::{Reading, WhiteTree};
 use rules::Overload;
@@ -10,8 +11,8 @@ use rules::Overload;
 // A reading on which every job and all before it in late order can finish by its late end.
 #[derive(Drop)]
 pub(crate) struct Calm<'a, W: Numbers> {
-    pub(crate) reading: Reading<'a, W>,
-    ghost calm: { overloading (read reading) (W.Numbers.at (bound_of reading)) ≡ None },
+    pub(crate) reading: &'a Reading<'a, W>,
+    ghost calm: { overloading (read reading.now) (W.Numbers.at (bound_of reading.now)) ≡ None },
 }
 
 // The first job in late order by whose late end it and all before it cannot finish, if there is one.
@@ -24,7 +25,7 @@ fn first_overload<W: Numbers>(reading: &Reading<'_, W>) -> Option<Overload>
         let j = reading.late_job(t);
         tree.enter(reading, j);
         let late = reading.face().late(j);
-        if tree.finish().is_some_and(|end| end > late) {
+        if is_above(tree.finish(), late) {
             return Some(Overload::TooMuch(j));
         }
     }
@@ -32,10 +33,12 @@ fn first_overload<W: Numbers>(reading: &Reading<'_, W>) -> Option<Overload>
 }
 
 // Refuses the first job in late order by whose late end it and all before it cannot finish.
-pub(crate) fn check_load<W: Numbers>(reading: Reading<'_, W>) -> Result<Calm<'_, W>, Overload>
-    ensures { MatchResult result (λ C. C.reading ≡ reading.entry) (λ x. overloading (read reading.entry) (W.Numbers.at (bound_of reading.entry)) ≡ Some x) }
+pub(crate) fn check_load<'a, W: Numbers>(
+    reading: &'a Reading<'a, W>,
+) -> Result<Calm<'a, W>, Overload>
+    ensures { MatchResult result (λ C. C.reading.now ≡ reading.now) (λ x. overloading (read reading.now) (W.Numbers.at (bound_of reading.now)) ≡ Some x) }
 {
-    match first_overload(&reading) {
+    match first_overload(reading) {
         Some(overload) => Err(overload),
         None => Ok(Calm { reading }),
     }

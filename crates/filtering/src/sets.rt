@@ -1,12 +1,19 @@
 // Sets of jobs, and what the rules read off them.
 ghost use Rattle.std.specs.Prelude.{◌≡◌, ℕ, ◌-◌, Bool, Some};
 ghost use Rattle.rules.specs.Faces.{latest_start};
-ghost use Rattle.rules.specs.Rules.{greatest, lesser, least_over, sum, up_to};
+ghost use Rattle.rules.specs.Rules.{above, greatest, lesser, least_over, sum, up_to};
 ghost use Rattle.face.specs.Shown.{shown};
 ghost use Rattle.face.specs.WhiteTrees.{but};
 ghost use Rattle.filtering.specs.Sets.{under, AtMost};
 
 use face::Face;
+
+// Whether a time is above a limit; none is above nothing.
+pub(crate) fn is_above(time: Option<u32>, limit: u32) -> bool
+    ensures { result ≡ above time limit }
+{
+    time.is_some_and(|t| t > limit)
+}
 
 // Whether a job is another than i and has to start before a limit.
 pub(crate) fn is_other_under(face: &Face, i: usize, limit: u32, k: usize) -> bool

@@ -10,7 +10,6 @@ use crate::round::round;
 use changeover::Bound;
 use face::Face;
 use rules::Window;
-use std::array;
 
 // The window of a job; 0 to 0 for what is no job.
 fn window_of(face: &Face, j: usize) -> Window
@@ -26,7 +25,11 @@ fn window_of(face: &Face, j: usize) -> Window
 fn windows(face: &Face) -> [Window; 32]
     ensures { Held (shown face.now) result }
 {
-    array::from_fn(|j| window_of(face, j))
+    let mut held = [Window { early: 0, late: 0 }; 32];
+    for (j, window) in held[..face.jobs()].iter_mut().enumerate() {
+        *window = window_of(face, j);
+    }
+    held
 }
 
 // Whether a job has the same window in both.

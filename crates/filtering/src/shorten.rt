@@ -13,7 +13,6 @@ use crate::pairs::pair_early;
 use changeover::Numbers;
 use face::Face;
 use rules::{Overload, Window};
-use std::array;
 
 // The early end that the rules leave to job i, where detectable precedences and edge finding leave these; 0 to what is no job.
 fn new_early(face: &Face, i: usize, detected: u32, edge: u32) -> u32
@@ -42,13 +41,17 @@ fn new_window(face: &Face, i: usize, detected: u32, edge: u32, not_last: u32) ->
 impl<W: Numbers> Calm<'_, W> {
     // The windows that the rules leave, all from the windows as they were.
     pub(crate) fn new_windows(&self) -> [Window; 32]
-        ensures { Ruled (read self.now.reading) (W.Numbers.at (bound_of self.now.reading)) result }
+        ensures { Ruled (read self.now.reading.now) (W.Numbers.at (bound_of self.now.reading.now)) result }
     {
         let face = self.reading.face();
-        let detected = detected_earlies(&self.reading);
+        let detected = detected_earlies(self.reading);
         let edges = self.edge_earlies();
-        let not_last = not_last_lates(&self.reading);
-        array::from_fn(|i| new_window(face, i, detected[i], edges[i], not_last[i]))
+        let not_last = not_last_lates(self.reading);
+        let mut windows = [Window { early: 0, late: 0 }; 32];
+        for (i, window) in windows[..face.jobs()].iter_mut().enumerate() {
+            *window = new_window(face, i, detected[i], edges[i], not_last[i]);
+        }
+        windows
     }
 }
 

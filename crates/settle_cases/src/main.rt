@@ -6,14 +6,18 @@ mod scripted;
 mod show;
 
 use cases::Named;
+use changeover::Larger;
 use face::Face;
 use filtering::{Outcome, settle};
+use kinds::Choice;
 use std::io;
 use std::io::{BufRead, BufReader};
 
 fn settle_with(face: &Face, bound: Named) -> Outcome {
     match bound {
-        Named::Chosen(choice) => settle(face, choice),
+        // Whether it is one kind or the larger of two is told apart here, and not again at each number.
+        Named::Chosen(Choice::One(kind)) => settle(face, kind),
+        Named::Chosen(Choice::Larger(one, other)) => settle(face, Larger { one, other }),
         Named::Given(scripted) => settle(face, scripted),
     }
 }

@@ -16,20 +16,20 @@ use Rattle.filtering.proofs.overload.Calm.edge_earlies.Goals as goal
 
 pub loop-t-init : goal.loop-t-init
 loop-t-init g c =
-    let F = read c.args.self.now.reading in
-    let b = g.W.Numbers.at (bound_of c.args.self.now.reading) in
+    let F = read c.args.self.now.reading.now in
+    let b = g.W.Numbers.at (bound_of c.args.self.now.reading.now) in
     let many : c.jobs-t.result ≡ F.n = c.jobs-t.ensures.value ∙ ap (λ x. x.n) c.face.ensures in (
       omega arith,
       refl,
       refl,
-      c.all_white.ensures (firsts F.n F.late c.jobs-t.result) (flagged (replicate 32 false)) (λ k hk. lt-ltb _ _ (omega (arith, rank_below F.late F.n k hk))) (λ k hk. get_or-replicate 32 k false false (omega (arith, hk, (fine c.args.self.now.reading.orders.face).few))),
-      λ i hi. walked_none F b c.jobs-t.result i (flagged (replicate 32 false) i) (get_or (replicate 32 0) i 0) (omega (arith, rank_below F.late F.n i hi)) (get_or-replicate 32 i false false (omega (arith, hi, (fine c.args.self.now.reading.orders.face).few))) (get_or-replicate 32 i 0 0 (omega (arith, hi, (fine c.args.self.now.reading.orders.face).few))),
+      c.all_white.ensures (firsts F.n F.late c.jobs-t.result) (flagged (replicate 32 false)) (λ k hk. lt-ltb _ _ (omega (arith, rank_below F.late F.n k hk))) (λ k hk. get_or-replicate 32 k false false (omega (arith, hk, (fine c.args.self.now.reading.now.orders.face).few))),
+      λ i hi. walked_none F b c.jobs-t.result i (flagged (replicate 32 false) i) (get_or (replicate 32 0) i 0) (omega (arith, rank_below F.late F.n i hi)) (get_or-replicate 32 i false false (omega (arith, hi, (fine c.args.self.now.reading.now.orders.face).few))) (get_or-replicate 32 i 0 0 (omega (arith, hi, (fine c.args.self.now.reading.now.orders.face).few))),
     )
 
 pub resolve-requires : goal.resolve-requires
 resolve-requires g c =
-    let F = read c.args.self.now.reading in
-    let b = g.W.Numbers.at (bound_of c.args.self.now.reading) in
+    let F = read c.args.self.now.reading.now in
+    let b = g.W.Numbers.at (bound_of c.args.self.now.reading.now) in
     let t : ℕ = c.loop-t.t - 1 in
     let j = c.late_job-j.result in
     let next : c.loop-t.t ≡ t + 1 = omega arith in
@@ -44,8 +44,8 @@ resolve-requires g c =
 
 pub loop-t-preserved : goal.loop-t-preserved
 loop-t-preserved g c =
-    let F = read c.args.self.now.reading in
-    let b = g.W.Numbers.at (bound_of c.args.self.now.reading) in
+    let F = read c.args.self.now.reading.now in
+    let b = g.W.Numbers.at (bound_of c.args.self.now.reading.now) in
     let t : ℕ = c.loop-t.t - 1 in
     let j = c.late_job-j.result in
     let next : c.loop-t.t ≡ t + 1 = omega arith in
@@ -53,7 +53,7 @@ loop-t-preserved g c =
     let walked : (i : ℕ) → i < F.n → Walked F b (t + 1) i (flagged c.loop-t.edges.grey i) (get_or c.loop-t.edges.early i 0) = λ i hi. subst (λ s. Walked F b s i (flagged c.loop-t.edges.grey i) (get_or c.loop-t.edges.early i 0)) next (c.loop-t.invariant.4 i hi) in
     let greys = c.resolve.new.self.grey in
     let many : length greys ≡ 32 = c.resolve.ensures.long.0 in
-    let long : j < length greys = omega (arith, at.0, (fine c.args.self.now.reading.orders.face).few) in (
+    let long : j < length greys = omega (arith, at.0, (fine c.args.self.now.reading.now.orders.face).few) in (
       omega (arith, c.loop-t.invariant.0),
       length-set greys j true ∙ many,
       c.resolve.ensures.long.1,
@@ -63,7 +63,7 @@ loop-t-preserved g c =
 
 pub returns : goal.returns
 returns g c =
-    let F = read c.args.self.now.reading in
-    let b = g.W.Numbers.at (bound_of c.args.self.now.reading) in
+    let F = read c.args.self.now.reading.now in
+    let b = g.W.Numbers.at (bound_of c.args.self.now.reading.now) in
     let none : c.loop-t.t ≡ 0 = omega arith in
     λ i hi. walked_all F b i (flagged c.loop-t.edges.grey i) (get_or c.loop-t.edges.early i 0) hi (subst (λ s. Walked F b s i (flagged c.loop-t.edges.grey i) (get_or c.loop-t.edges.early i 0)) none (c.loop-t.invariant.4 i hi))
